@@ -1,0 +1,76 @@
+-- What a case asks of the definitions, and what they answer.
+-- Assumes nothing.
+use Prim.Native.Nat.{ℕ}
+use mathlib.Core.List.{List, [], _∷_, _++_, map}
+use Rattle.format.specs.declared.Codec.{Codec}
+use Rattle.format.specs.declared.Codec.the-variants.{Bitpacked, Linear, Blockwise}
+use Rattle.format.specs.declared.Column.{Column}
+use Rattle.format.specs.Outcome.{Outcome, _>>=_, Outcome.value}
+use Rattle.format.specs.Varint.{spell}
+use Rattle.format.specs.Packing.{width}
+use Rattle.format.specs.Stats.{greatest}
+use Rattle.format.specs.Line.{through, lineAt, trained, residuals}
+use Rattle.format.specs.Writing.{written}
+use Rattle.format.specs.Opening.{Loaded, opened}
+use Rattle.format.specs.Reading.{rowAt}
+use Rattle.format.specs.Lookup.{lookedUp, within}
+use Rattle.format.specs.Listing.{listing}
+
+-- a number's spelling; its width; the line of four values; codecs, values and room; bytes and blocks; bytes, blocks and a row; a made-up column, table,
+-- bytes and a row; bytes, low, high, first, end and room; codecs, values and a row of what was written; the listing of bytes
+pub data Asked : Type 0 where
+  spelling : ℕ → Asked
+  widthOf : ℕ → Asked
+  training : List ℕ → Asked
+  writing : List ℕ → List ℕ → ℕ → Asked
+  opening : List ℕ → ℕ → Asked
+  reading : List ℕ → ℕ → ℕ → Asked
+  made : Column → List ℕ → List ℕ → ℕ → Asked
+  looking : List ℕ → ℕ → ℕ → ℕ → ℕ → ℕ → Asked
+  returning : List ℕ → List ℕ → ℕ → Asked
+  text : List ℕ → Asked
+
+-- of four values: the slope of their line, the line with intercept 0 at the four places, the residuals, their width
+unfoldable pub lineOf : List ℕ → List ℕ
+lineOf vs =
+    let l = trained vs in
+    l .slope ∷ (map (lineAt (through (l .slope))) (0 ∷ 1 ∷ 2 ∷ 3 ∷ []) ++ (residuals l vs ++ (width (greatest (residuals l vs)) ∷ [])))
+
+-- an opened column as a list: minimum, gcd, count, rows, start, size, codec with its numbers, table
+abbrev pub codecNumbers : Codec → List ℕ
+codecNumbers Bitpacked = 0 ∷ []
+codecNumbers (Linear l w) = 1 ∷ l .slope ∷ l .intercept ∷ w ∷ []
+codecNumbers Blockwise = 2 ∷ []
+
+abbrev pub numbersOf : Loaded → List ℕ
+numbersOf o =
+    o .column .minimum ∷ o .column .gcd ∷ o .column .count ∷ o .column .rows ∷ o .column .start ∷ o .column .size
+    ∷ (codecNumbers (o .column .codec) ++ o .table)
+
+-- one number as a list
+abbrev pub alone : Outcome ℕ → Outcome (List ℕ)
+alone o = o >>= (λ (v : ℕ). value (v ∷ []))
+
+-- what the definitions answer
+unfoldable pub answer : Asked → Outcome (List ℕ)
+answer (spelling n) = value (spell n)
+answer (widthOf n) = value (width n ∷ [])
+answer (training vs) = value (lineOf vs)
+answer (writing cs vs room) = written vs cs room
+answer (opening s room) = opened s room >>= (λ (o : Loaded). value (numbersOf o))
+answer (reading s room r) = opened s room >>= (λ (o : Loaded). alone (rowAt (o .column) (o .table) s r))
+answer (made col t s r) = alone (rowAt col t s r)
+answer (looking s low high first end room) = opened s 1 >>= (λ (o : Loaded). lookedUp (rowAt (o .column) (o .table) s) (o .column .rows) (within low high) first end room)
+answer (returning cs vs r) = written vs cs 5000 >>= (λ (s : List ℕ). opened s 9 >>= (λ (o : Loaded). alone (rowAt (o .column) (o .table) s r)))
+answer (text s) = value (listing s)
+
+infix 4 _gives_
+-- a case: what is asked, and the right answer
+pub data Case : Type 0 where
+  _gives_ : Asked → Outcome (List ℕ) → Case
+
+abbrev pub question : Case → Asked
+question (q gives a) = q
+
+abbrev pub said : Case → Outcome (List ℕ)
+said (q gives a) = a

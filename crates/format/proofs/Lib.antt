@@ -1,0 +1,46 @@
+-- Cases, laws and theorems; the head of each file lists what it offers.
+
+-- what all laws stand on
+pub mod Lists
+pub mod Outcomes
+pub mod Answers
+-- the small pieces
+pub mod Words
+pub mod Bits
+pub mod Packing
+pub mod Widths
+pub mod Gathering
+pub mod Stores
+pub mod Varints
+pub mod VarintLoops
+pub mod Folds
+pub mod Gcds
+pub mod Statistics
+pub mod Lines
+pub mod LineFields
+pub mod Heads
+-- opening, reading, looking up
+pub mod Tables
+pub mod Openings
+pub mod Laid
+pub mod Elsewhere
+pub mod Rows
+pub mod Lookups
+-- writing
+pub mod RoundTrip
+pub mod Choosing
+pub mod Writes
+pub mod Bitpacked
+pub mod Linear
+pub mod WrittenBlocks
+pub mod Blockwise
+pub mod WrittenBytes
+-- the demands
+pub mod Demand2
+pub mod Demand3
+pub mod Example
+-- cases, computed
+pub mod Asking
+pub mod RuleCases
+pub mod LongCases
+pub mod Cases

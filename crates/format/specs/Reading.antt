@@ -1,0 +1,92 @@
+-- Reading a row of an opened column.
+-- Assumes nothing.
+use Prim.Native.Nat.{ℕ, _+_, _*_, _/_, _%_, _^_}
+use mathlib.Core.Bool.{Bool, true, _&&_, _||_}
+use mathlib.Core.List.{List, [], _∷_}
+use lib.Dec.{ltb, leb, eqb}
+use lib.ListN.{length, drop, getD}
+use Rattle.format.specs.declared.Codec.{Codec}
+use Rattle.format.specs.declared.Codec.the-variants.{Bitpacked, Linear, Blockwise}
+use Rattle.format.specs.declared.Column.{Column}
+use Rattle.format.specs.declared.Block.{Block}
+use Rattle.format.specs.Outcome.{Outcome, Outcome.value, _>>=_, _>>_, demand}
+use Rattle.format.specs.Word.{modAdd}
+use Rattle.format.specs.Packing.{width, legal, unpack}
+use Rattle.format.specs.Line.{lineAt}
+
+-- block b of a table, four numbers a block; a block past the table's end is all zeros
+abbrev pub blockAt : (t : List ℕ) (b : ℕ) → Block
+blockAt t b =
+    record {
+      line = record { slope = getD t (4 * b) 0; intercept = getD t (4 * b + 1) 0 };
+      bits = getD t (4 * b + 2) 0;
+      start = getD t (4 * b + 3) 0;
+    }
+
+-- whether a table of so many blocks has a row's: row r of a column is row r % 512 of block r / 512
+abbrev pub hasBlock : Codec → (blocks r : ℕ) → Bool
+hasBlock Bitpacked blocks r = true
+hasBlock (Linear l w) blocks r = true
+hasBlock Blockwise blocks r = ltb (r / 512) blocks
+
+-- ---- a row's bits
+
+-- where a row's number stands: a run of packed numbers starts at a byte of the area, and it is number `row` there, of so many bits
+pub record Place : Type 0 where
+  pub start : ℕ
+  pub row : ℕ
+  pub bits : ℕ
+
+-- by the codec and the row's block; Bitpacked's width comes from the count
+unfoldable pub placeIn : Codec → (count : ℕ) → Block → (r : ℕ) → Place
+placeIn Bitpacked count b r = record { start = 0; row = r; bits = width count }
+placeIn (Linear l w) count b r = record { start = 0; row = r; bits = w }
+placeIn Blockwise count b r = record { start = b .start; row = r % 512; bits = b .bits }
+
+-- by the column and the row's block
+abbrev pub placeOf : Column → Block → (r : ℕ) → Place
+placeOf col b r = placeIn (col .codec) (col .count) b r
+
+-- whether a column, a table of so many blocks with the row's block, and bytes fit together at a row: the gcd, the bounds, the block, its width, the area, and the row's bits if it has any
+unfoldable pub fits : Column → (blocks : ℕ) → Block → (s : List ℕ) (r : ℕ) → Bool
+fits col blocks b s r =
+    let p = placeOf col b r in
+    ltb 0 (col .gcd)
+    && ltb (col .minimum + col .count * col .gcd) (2 ^ 64)
+    && hasBlock (col .codec) blocks r
+    && legal (p .bits)
+    && leb (col .start + col .size) (length s)
+    && (eqb (p .bits) 0 || leb (8 * p .start + (p .row + 1) * p .bits) (8 * col .size))
+
+-- a row's packed number
+unfoldable pub packedOf : Column → Block → (s : List ℕ) (r : ℕ) → ℕ
+packedOf col b s r =
+    let p = placeOf col b r in
+    unpack (p .bits) (drop (col .start + p .start) s) (p .row)
+
+-- ---- its value
+
+-- minimum + gcd · multiple; a multiple above the count is out of bounds
+abbrev pub scaled : Column → (r multiple : ℕ) → Outcome ℕ
+scaled col r multiple = demand (leb multiple (col .count)) 14 (r ∷ []) >> value (col .minimum + col .gcd * multiple)
+
+-- the value of a row whose packed number is n
+unfoldable pub valueIn : Codec → Column → Block → (r n : ℕ) → Outcome ℕ
+valueIn Bitpacked col b r n = scaled col r n
+valueIn (Linear l w) col b r n =
+    let v = modAdd (lineAt l r) n in
+    demand (leb (col .minimum) v && leb v (col .minimum + col .gcd * col .count)) 14 (r ∷ []) >> value v
+valueIn Blockwise col b r n = scaled col r (modAdd (lineAt (b .line) (r % 512)) n)
+
+-- ---- reading
+
+-- row r of a column, with its block out of a table of so many
+unfoldable pub rowIn : Column → (blocks : ℕ) → Block → (s : List ℕ) (r : ℕ) → Outcome ℕ
+rowIn col blocks b s r = do
+  demand (ltb r (col .rows)) 12 []
+  demand (fits col blocks b s r) 13 []
+  valueIn (col .codec) col b r (packedOf col b s r)
+
+-- reading row r of a column, with its table and its bytes
+abbrev pub rowAt : Column → (t s : List ℕ) (r : ℕ) → Outcome ℕ
+rowAt col t s r = rowIn col (length t / 4) (blockAt t (r / 512)) s r

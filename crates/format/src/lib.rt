@@ -1,0 +1,149 @@
+// The format: the types that every crate shares. What the bytes of a column mean is defined in specs/, in the order of the rules; the
+// demands on those definitions are stated in specs/Demands.antt and proved in proofs/.
+
+ghost use mathlib.Core.Path.{_≡_};
+ghost use Rattle.format.specs.Refusals.{paper};
+
+// Why a call refuses: a case for each number, with what it also returns (specs/Refusals.antt has the table).
+pub enum Refusal {
+    TooManyValues,
+    UnknownCodec { place: usize },
+    NoCodecApplies,
+    OutputShort { needed: usize },
+    NotAColumn,
+    BadField { offset: usize },
+    GcdZero,
+    OutOfRange,
+    IllegalWidth { offset: usize },
+    AreaShort,
+    TableShort { blocks: usize },
+    NoSuchRow,
+    Unfit,
+    OutOfBounds { row: u32 },
+    ListShort { found: usize },
+    OverLimit,
+}
+
+impl Refusal {
+    // The refusal's number in the table.
+    pub fn number(self) -> u8
+        ensures { λ n. ⌜ n ≡ paper self .0 ⌝ }
+    {
+        match self {
+            Refusal::TooManyValues => 1,
+            Refusal::UnknownCodec { place: _ } => 2,
+            Refusal::NoCodecApplies => 3,
+            Refusal::OutputShort { needed: _ } => 4,
+            Refusal::NotAColumn => 5,
+            Refusal::BadField { offset: _ } => 6,
+            Refusal::GcdZero => 7,
+            Refusal::OutOfRange => 8,
+            Refusal::IllegalWidth { offset: _ } => 9,
+            Refusal::AreaShort => 10,
+            Refusal::TableShort { blocks: _ } => 11,
+            Refusal::NoSuchRow => 12,
+            Refusal::Unfit => 13,
+            Refusal::OutOfBounds { row: _ } => 14,
+            Refusal::ListShort { found: _ } => 15,
+            Refusal::OverLimit => 16,
+        }
+    }
+}
+
+// Statistics of a list of values.
+pub struct ColumnStats {
+    pub minimum: u64,
+    pub maximum: u64,
+    pub gcd: u64,
+    pub rows: u32,
+}
+
+// A line in whole numbers: the slope has 32 bits after the point.
+pub struct Line {
+    pub slope: u64,
+    pub intercept: u64,
+}
+
+// An opened column's codec, with that codec's own numbers.
+pub enum Codec {
+    Bitpacked,
+    Linear(Line, u8),
+    Blockwise,
+}
+
+// An opened column. Its packed area is `size` bytes from `start` on.
+pub struct Column {
+    pub minimum: u64,
+    pub gcd: u64,
+    pub count: u64,
+    pub rows: u32,
+    pub start: usize,
+    pub size: usize,
+    pub codec: Codec,
+}
+
+// A block of a Blockwise column: its line, the width of its packed numbers, and its start byte, counted from the area's start.
+pub struct Block {
+    pub line: Line,
+    pub bits: u64,
+    pub start: u64,
+}
+
+// A row of a column, and a row of one block: two counts.
+pub struct ColumnRow(pub u32);
+
+pub struct BlockRow(pub u32);
+
+// A number that was read from the bytes, and the offset behind it.
+pub struct Field {
+    pub value: u64,
+    pub next: usize,
+}
+
+// A head that was read, and the offset behind it.
+pub struct Head {
+    pub minimum: u64,
+    pub gcd: u64,
+    pub count: u64,
+    pub rows: u32,
+    pub next: usize,
+}
+
+// A line and a width that were read, and the offset behind them.
+pub struct Fields {
+    pub line: Line,
+    pub bits: u8,
+    pub next: usize,
+}
+
+// What the entry points answer (specs/Refusals.antt says what each case means).
+
+// Statistics of a list.
+pub enum Stated {
+    Stats(ColumnStats),
+    Refused(Refusal),
+}
+
+// Writing: the length of the column that now stands in the output.
+pub enum Written {
+    Length(usize),
+    Refused(Refusal),
+}
+
+// Opening: the column; its blocks stand in the lent table.
+pub enum Opened {
+    Column(Column),
+    Refused(Refusal),
+}
+
+// Reading a row.
+pub enum RowRead {
+    Value(u64),
+    Refused(Refusal),
+}
+
+// Looking rows up: how many now stand in the lent list.
+pub enum Found {
+    Rows(usize),
+    Refused(Refusal),
+}
