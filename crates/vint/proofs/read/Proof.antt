@@ -1,0 +1,141 @@
+-- `vint::read` meets its contract. The invariant of its loop is `ReadingVarint`; the measure is the bytes that may still come before the tenth.
+-- Assumes nothing.
+use mathlib.Core.Path.{sym}
+use Prim.Native.Nat.{_+_, _-_, _*_, _^_, _<_}
+use native.Mathlib.Omega.{arith}
+use borrow.Author.Needs.{needs}
+use Rattle.format.proofs.VarintLoops.{ReadingVarint, reading-starts, reading-ends, reading-more, reading-last, tenth-scale, tenth-ends, tenth-refused, scale-small, digit-fits}
+use Rattle.vint.proofs.read.Statement.{statement}
+use Rattle.vint.proofs.read.Tie as tie
+
+abbrev Inv-loop : tie.InvT-loop
+Inv-loop s at number₀ scale₀ pos₀ used₀ number scale pos used = ReadingVarint s at number scale pos used
+
+abbrev μ-loop : tie.MeasureT-loop
+μ-loop s at number₀ scale₀ pos₀ used₀ number scale pos used = 9 - used
+
+loop-holds : tie.Need-loop-holds Inv-loop μ-loop
+loop-holds c = reading-starts _ _
+
+returns : tie.Need-returns Inv-loop μ-loop
+returns c = sym (reading-ends (c .before .before .loop .inv) (c .if1 .taken))
+
+shared-slice-read-wide : tie.Need-shared-slice-read-wide Inv-loop μ-loop
+shared-slice-read-wide c = search needs
+
+wide-requires : tie.Need-wide-requires Inv-loop μ-loop
+wide-requires c κs = search needs
+
+abbrev at-last : tie.Then2 Inv-loop μ-loop → tie.At-loop Inv-loop μ-loop
+at-last c = c .before .before .before .before .before
+
+abbrev at-next : tie.Else2 Inv-loop μ-loop → tie.At-loop Inv-loop μ-loop
+at-next c = c .before .before .before .before .before
+
+-- the last byte's digit leaves the number below 2^63
+last-digit : (c : tie.Then2 Inv-loop μ-loop) → at-last c .loop .number + (c .before .wide .result - 128) * at-last c .loop .scale < 2 ^ 63
+last-digit c =
+    digit-fits (at-last c .loop .inv) _ (search needs)
+    (omega (arith, c .before .before .shared-slice-known2 .given (at-last c .loop .pos)))
+
+-- so does any other byte's
+next-digit : (c : tie.Else2 Inv-loop μ-loop) → at-next c .loop .number + c .before .wide .result * at-next c .loop .scale < 2 ^ 63
+next-digit c = digit-fits (at-next c .loop .inv) _ (search needs) (c .if2 .left)
+
+mul-t15 : tie.Need-mul-t15 Inv-loop μ-loop
+mul-t15 c = omega (arith, last-digit c)
+
+add-t16 : tie.Need-add-t16 Inv-loop μ-loop
+add-t16 c = omega (arith, last-digit c)
+
+add-t17 : tie.Need-add-t17 Inv-loop μ-loop
+add-t17 c = search needs
+
+returns-2 : tie.Need-returns-2 Inv-loop μ-loop
+returns-2 c =
+    sym
+    (reading-last (at-last c .loop .inv) _ (c .before .before .before .if1 .left) (omega arith) (rw (c .before .wide .ensures)) (omega (arith, last-digit c)))
+
+mul-number : tie.Need-mul-number Inv-loop μ-loop
+mul-number c = omega (arith, next-digit c)
+
+add-number : tie.Need-add-number Inv-loop μ-loop
+add-number c = omega (arith, next-digit c)
+
+mul-scale : tie.Need-mul-scale Inv-loop μ-loop
+mul-scale c = omega (arith, scale-small (at-next c .loop .inv) (search needs))
+
+add-pos : tie.Need-add-pos Inv-loop μ-loop
+add-pos c = search needs
+
+add-used : tie.Need-add-used Inv-loop μ-loop
+add-used c = search needs
+
+loop-less : tie.Need-loop-less Inv-loop μ-loop
+loop-less c = search needs
+
+loop-again : tie.Need-loop-again Inv-loop μ-loop
+loop-again c =
+    reading-more (at-next c .loop .inv) (c .before .wide .result) (c .before .wide .ensures) (search needs) (search needs) (c .if2 .left)
+
+returns-3 : tie.Need-returns-3 Inv-loop μ-loop
+returns-3 c = sym (reading-ends (c .before .before .loop .inv) (c .if3 .taken))
+
+shared-slice-read-b : tie.Need-shared-slice-read-b Inv-loop μ-loop
+shared-slice-read-b c = search needs
+
+add-t25 : tie.Need-add-t25 Inv-loop μ-loop
+add-t25 c = search needs
+
+returns-4 : tie.Need-returns-4 Inv-loop μ-loop
+returns-4 c =
+    let after-loop = c .before .before .before in
+    sym (tenth-ends (after-loop .before .loop .inv) _ 0 (after-loop .loop-test .left) (c .before .before .if3 .left) (c .if4 .taken) (omega arith) (omega arith))
+
+add-t27 : tie.Need-add-t27 Inv-loop μ-loop
+add-t27 c =
+    let after-loop = c .before .before .before .before in
+    omega (arith, after-loop .before .loop .inv .small, tenth-scale (after-loop .before .loop .inv) (after-loop .loop-test .left))
+
+add-t28 : tie.Need-add-t28 Inv-loop μ-loop
+add-t28 c = search needs
+
+returns-5 : tie.Need-returns-5 Inv-loop μ-loop
+returns-5 c =
+    let after-loop = c .before .before .before .before in
+    sym (tenth-ends (after-loop .before .loop .inv) _ 1 (after-loop .loop-test .left) (c .before .before .before .if3 .left) (c .if5 .taken) (omega arith) (omega arith))
+
+returns-6 : tie.Need-returns-6 Inv-loop μ-loop
+returns-6 c =
+    let after-loop = c .before .before .before .before in
+    sym (tenth-refused (after-loop .before .loop .inv) (after-loop .loop-test .left) (c .before .before .before .if3 .left) (c .before .if4 .left) (c .if5 .left))
+
+pub read-spec : {M : Type 1} → statement M
+read-spec =
+    tie.close
+    (tie.spec
+    Inv-loop
+    μ-loop
+    loop-holds
+    returns
+    shared-slice-read-wide
+    wide-requires
+    mul-t15
+    add-t16
+    add-t17
+    returns-2
+    mul-number
+    add-number
+    mul-scale
+    add-pos
+    add-used
+    loop-less
+    loop-again
+    returns-3
+    shared-slice-read-b
+    add-t25
+    returns-4
+    add-t27
+    add-t28
+    returns-5
+    returns-6)
