@@ -1,0 +1,175 @@
+// The width of a number, and numbers packed at a width: one behind the other without gap, lowest bit first.
+//
+// Both ways go through a word of eight bytes. A packer fills one and stores it whole; a reader loads the eight bytes from
+// a row's first bit on, which hold all of a row of a legal width. That is why the widths 57 to 63 are left out.
+ghost use mathlib.Core.Path.{_≡_};
+ghost use mathlib.Core.Bool.{true};
+ghost use mathlib.Core.List.{List, [], _++_};
+ghost use Prim.Native.Nat.{ℕ, _+_, _-_, _*_, _/_, _%_, _^_, _≤_, _<_};
+ghost use lib.ListN.{length, take, drop};
+ghost use Rattle.format.specs.Word.{bytesFor};
+ghost use Rattle.format.specs.Packing.{width, legal, bitsOf, bytesOf, packed, bytesNum, numBytes, unpack};
+ghost use Rattle.bitpacker.specs.Packer.{Packs, Writable, Closable, Packable};
+
+// The width of `n`: its bit length, where 57 to 63 become 64.
+pub fn compute_num_bits(n: u64) -> u8
+    ensures { λ r. ⌜ r ≡ width n ⌝ }
+{
+    let bits = 64 - u64::leading_zeros(n);
+    if bits <= 56 { bits as u8 } else { 64 }
+}
+
+// Internal: asks for fewer than 2^32 rows of at most 64 bits. How many bytes they fill.
+pub fn packed_len(rows: usize, width: u8) -> usize
+    requires { ⌜ (rows < 2 ^ 32) × (width ≤ 64) ⌝ }
+    ensures { λ r. ⌜ r ≡ bytesFor (width * rows) ⌝ }
+{
+    ((width as usize) * rows + 7) / 8
+}
+
+// Stores the `n` lowest bytes of `word` from `at` on, little end first. Where `n` is a literal 8 the compiled code has one
+// store for the loop.
+fn put(out: &mut [u8], at: usize, word: u64, n: usize)
+    requires { ⌜ (at + n ≤ length (now out)) × (n ≤ 8) ⌝ }
+    ensures { λ _. ⌜ now (out .exit) ≡ take at (now (out .entry)) ++ numBytes n word ++ drop (at + n) (now (out .entry)) ⌝ }
+{
+    let mut rest = word;
+    let mut k = 0;
+    while k < n {
+        out[at + k] = (rest % 256) as u8;
+        rest = rest / 256;
+        k += 1;
+    }
+}
+
+// Numbers on their way into bytes: `at` bytes stand written, a word of eight at a time, and `held` bits, fewer than 64,
+// wait in `hold` for their word to fill.
+pub struct BitPacker {
+    pub at: usize,
+    pub held: u32,
+    pub hold: u64,
+}
+
+impl BitPacker {
+    // Nothing packed yet.
+    pub fn new() -> BitPacker
+        ensures { λ r. ⌜ ((out : List ℕ) → Packs [] out r out) ⌝ }
+    {
+        BitPacker {
+            at: 0,
+            held: 0,
+            hold: 0,
+        }
+    }
+
+    // Internal: asks that the number has `width` bits and that there is room for them. Packs one number more.
+    pub fn write(self, out: &mut [u8], value: u64, width: u8) -> BitPacker
+        requires { ⌜ Writable width value self (now out) ⌝ }
+        ensures { λ r. ⌜ ((bits before : List ℕ) → Packs bits before self (now (out .entry)) → Packs (bits ++ bitsOf width value) before r (now (out .exit))) ⌝ }
+    {
+        let at = self.at;
+        let held = self.held;
+        let low = self.hold + (value << held);
+        let bits = held + width as u32;
+        if bits < 64 {
+            return BitPacker {
+                at,
+                held: bits,
+                hold: low,
+            };
+        }
+        put(out, at, low, 8);
+        // Two shifts, since one by 64 is none: `held` may be 0.
+        BitPacker {
+            at: at + 8,
+            held: bits - 64,
+            hold: (value >> 1) >> (63 - held),
+        }
+    }
+
+    // Internal: asks for room for what is held. Writes it, the last byte filled up with zero bits.
+    pub fn close(self, out: &mut [u8])
+        requires { ⌜ Closable self (now out) ⌝ }
+        ensures { λ _. ⌜ ((bits before : List ℕ) → Packs bits before self (now (out .entry)) → now (out .exit) ≡ bytesOf (bytesFor (length bits)) bits ++ drop (bytesFor (length bits)) before) ⌝ }
+    {
+        let at = self.at;
+        let left = (self.held as usize + 7) / 8;
+        put(out, at, self.hold, left);
+    }
+}
+
+// Internal: asks that the values fit the width and the output has room for them. Packs them to its front, and leaves what
+// stands behind as it is.
+pub fn pack(values: &[u64], width: u8, out: &mut [u8])
+    requires { ⌜ Packable width (now values) (now out) ⌝ }
+    ensures { λ _. ⌜ now (out .exit) ≡ packed width (now (values .entry)) ++ drop (bytesFor (width * length (now (values .entry)))) (now (out .entry)) ⌝ }
+{
+    let mut packer = BitPacker::new();
+    let mut i = 0;
+    while i < values.len() {
+        packer = packer.write(out, values[i], width);
+        i += 1;
+    }
+    packer.close(out);
+}
+
+// The `n` bytes from `at` on as a number, little end first. Where `n` is a literal 8 the compiled code has one load for the
+// loop.
+fn gather(area: &[u8], at: usize, n: usize) -> u64
+    requires { ⌜ (at + n ≤ length (now area)) × (n ≤ 8) ⌝ }
+    ensures { λ r. ⌜ r ≡ bytesNum (take n (drop at (now (area .entry)))) ⌝ }
+{
+    let mut word: u64 = 0;
+    let mut k = n;
+    while 0 < k {
+        k -= 1;
+        let byte = area[at + k] as u64;
+        word = word * 256 + byte;
+    }
+    word
+}
+
+// The number whose `width` lowest bits are set. A shift by 64 would be none, so the full word is a case of its own.
+fn mask(width: u8) -> u64
+    requires { ⌜ width ≤ 64 ⌝ }
+    ensures { λ r. ⌜ r ≡ 2 ^ width - 1 ⌝ }
+{
+    if width < 64 {
+        (1u64 << width) - 1
+    } else {
+        u64::MAX
+    }
+}
+
+// The `width` bits of `word` from bit `shift` on.
+fn field(word: u64, shift: usize, width: u8) -> u64
+    requires { ⌜ (shift < 64) × (width ≤ 64) ⌝ }
+    ensures { λ r. ⌜ r ≡ word / 2 ^ shift % 2 ^ width ⌝ }
+{
+    (word >> shift) & mask(width)
+}
+
+// The bytes from `at` on as a number, little end first: eight of them, or as many as there are.
+fn fetch(area: &[u8], at: usize) -> u64
+    ensures { λ r. ⌜ r ≡ bytesNum (take 8 (drop at (now (area .entry)))) ⌝ }
+{
+    if area.len() <= at {
+        return 0;
+    }
+    let left = area.len() - at;
+    if left < 8 {
+        return gather(area, at, left);
+    }
+    gather(area, at, 8)
+}
+
+// Internal: asks for a legal width. The number at `index` of an area packed at `width` bits; what lies past the area's end
+// counts as zero bits.
+pub fn get(area: &[u8], width: u8, index: u32) -> u64
+    requires { ⌜ legal width ≡ true ⌝ }
+    ensures { λ r. ⌜ r ≡ unpack width (now (area .entry)) index ⌝ }
+{
+    let bit = (index as usize) * (width as usize);
+    let word = fetch(area, bit / 8);
+    field(word, bit % 8, width)
+}
