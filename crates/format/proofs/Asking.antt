@@ -14,10 +14,10 @@ use Rattle.format.specs.Writing.{written}
 use Rattle.format.specs.Opening.{Loaded, opened}
 use Rattle.format.specs.Reading.{rowAt}
 use Rattle.format.specs.Lookup.{lookedUp, within}
-use Rattle.format.specs.Listing.{listing}
+use Rattle.format.specs.Listing.{listing, openedHere}
 
 -- a number's spelling; its width; the line of four values; codecs, values and room; bytes and blocks; bytes, blocks and a row; a made-up column, table,
--- bytes and a row; bytes, low, high, first, end and room; codecs, values and a row of what was written; the listing of bytes
+-- bytes and a row; bytes, low, high, first, end and room; codecs, values and a row of what was written; bytes in a program; the listing of bytes
 pub data Asked : Type 0 where
   spelling : ℕ → Asked
   widthOf : ℕ → Asked
@@ -28,6 +28,7 @@ pub data Asked : Type 0 where
   made : Column → List ℕ → List ℕ → ℕ → Asked
   looking : List ℕ → ℕ → ℕ → ℕ → ℕ → ℕ → Asked
   returning : List ℕ → List ℕ → ℕ → Asked
+  limited : List ℕ → Asked
   text : List ℕ → Asked
 
 -- of four values: the slope of their line, the line with intercept 0 at the four places, the residuals, their width
@@ -62,6 +63,7 @@ answer (reading s room r) = opened s room >>= (λ (o : Loaded). alone (rowAt (o 
 answer (made col t s r) = alone (rowAt col t s r)
 answer (looking s low high first end room) = opened s 1 >>= (λ (o : Loaded). lookedUp (rowAt (o .column) (o .table) s) (o .column .rows) (within low high) first end room)
 answer (returning cs vs r) = written vs cs 5000 >>= (λ (s : List ℕ). opened s 9 >>= (λ (o : Loaded). alone (rowAt (o .column) (o .table) s r)))
+answer (limited s) = openedHere s >>= (λ (o : Loaded). value (numbersOf o))
 answer (text s) = value (listing s)
 
 infix 4 _gives_
