@@ -1,0 +1,164 @@
+// The statistics of a column: least and greatest value, gcd of the differences, number of rows; and the head that holds them.
+ghost use mathlib.Core.Path.{_≡_};
+ghost use Prim.Native.Nat.{_+_, _*_, _^_, _≤_, _<_};
+ghost use lib.Dec.{ltb};
+ghost use lib.ListN.{length};
+ghost use Rattle.format.specs.Outcome.{Wrote};
+ghost use Rattle.format.specs.Stats.{gcd, distance, statsOf, countOf, spellHead, readHead};
+ghost use Rattle.stats.specs.Meaning.{headMeaning};
+ghost use Rattle.stats.specs.Asked.{Sound};
+use format::ColumnStats;
+use format::Head;
+use format::Refusal;
+use vint::VintRead;
+
+// The greatest common divisor, by Euclid's rule.
+fn gcd_of(a: u64, b: u64) -> u64
+    ensures { λ r. ⌜ r ≡ gcd a b ⌝ }
+{
+    let mut large = a;
+    let mut small = b;
+    while small != 0 {
+        let rest = large % small;
+        large = small;
+        small = rest;
+    }
+    large
+}
+
+// The same, with no division once the gcd is 1.
+fn joined(d: u64, g: u64) -> u64
+    ensures { λ r. ⌜ r ≡ gcd d g ⌝ }
+{
+    if g == 1 {
+        return 1;
+    }
+    gcd_of(d, g)
+}
+
+fn apart(a: u64, b: u64) -> u64
+    ensures { λ r. ⌜ r ≡ distance a b ⌝ }
+{
+    if a < b { b - a } else { a - b }
+}
+
+// Internal: asks for fewer than 2^32 values. Their statistics.
+pub fn collect(values: &[u64]) -> ColumnStats
+    requires { ⌜ length (now values) < 2 ^ 32 ⌝ }
+    ensures { λ r. ⌜ r ≡ statsOf (now (values .entry)) ⌝ }
+{
+    let n = values.len();
+    if n == 0 {
+        return ColumnStats {
+            minimum: 0,
+            maximum: 0,
+            gcd: 1,
+            rows: 0,
+        };
+    }
+    let first = values[0];
+    let mut lo = first;
+    let mut hi = first;
+    let mut g = 0;
+    let mut i = 1;
+    while i < n {
+        let v = values[i];
+        lo = word::lesser(lo, v);
+        hi = word::larger(hi, v);
+        g = joined(apart(v, first), g);
+        i += 1;
+    }
+    ColumnStats {
+        minimum: lo,
+        maximum: hi,
+        gcd: word::larger(g, 1),
+        rows: n as u32,
+    }
+}
+
+// Internal: asks for a gcd above 0 and a minimum that is not above the maximum. How many steps of the gcd lead from the minimum to the maximum.
+pub fn count_of(stats: ColumnStats) -> u64
+    requires { ⌜ Sound stats ⌝ }
+    ensures { λ r. ⌜ r ≡ countOf stats ⌝ }
+{
+    (stats.maximum - stats.minimum) / stats.gcd
+}
+
+// Internal: asks for the same statistics. How many bytes their head takes.
+pub fn head_len(stats: ColumnStats) -> usize
+    requires { ⌜ Sound stats ⌝ }
+    ensures { λ r. ⌜ r ≡ length (spellHead stats) ⌝ }
+{
+    let count = count_of(stats);
+    vint::len(stats.minimum)
+        + vint::len(stats.gcd)
+        + vint::len(count)
+        + vint::len(stats.rows as u64)
+}
+
+// Internal: asks for the same statistics, and for room. Writes their head at an offset, and returns the offset behind it.
+pub fn head_write(out: &mut [u8], at: usize, stats: ColumnStats) -> usize
+    requires { ⌜ Sound stats × (at + length (spellHead stats) ≤ length (now out)) ⌝ }
+    ensures { λ r. ⌜ Wrote (now (out .entry)) at (spellHead stats) (now (out .exit)) r ⌝ }
+{
+    let count = count_of(stats);
+    let mut next = vint::write(out, at, stats.minimum);
+    next = vint::write(out, next, stats.gcd);
+    next = vint::write(out, next, count);
+    vint::write(out, next, stats.rows as u64)
+}
+
+// Whether the maximum that a head states, minimum + count * gcd, is a number of 64 bits. The room above the minimum is divided by
+// the gcd instead of multiplying: a difference and a quotient of numbers of 64 bits have 64 bits too, so nothing can wrap.
+pub fn bounds_fit(minimum: u64, count: u64, gcd: u64) -> bool
+    ensures { λ r. ⌜ r ≡ ltb (minimum + count * gcd) (2 ^ 64) ⌝ }
+{
+    if gcd == 0 {
+        return true;
+    }
+    count <= (u64::MAX - minimum) / gcd
+}
+
+// What reading a head finds.
+pub enum HeadRead {
+    Head(Head),
+    Refused(Refusal),
+}
+
+// The head after the code byte, field by field.
+pub fn head_read(s: &[u8]) -> HeadRead
+    ensures { λ r. ⌜ headMeaning r ≡ readHead (now (s .entry)) ⌝ }
+{
+    let minimum = match vint::read(s, 1) {
+        VintRead::Value(v) => v,
+        VintRead::Refused(r) => return HeadRead::Refused(r),
+    };
+    let gcd = match vint::read(s, minimum.next) {
+        VintRead::Value(v) => v,
+        VintRead::Refused(r) => return HeadRead::Refused(r),
+    };
+    if gcd.value == 0 {
+        return HeadRead::Refused(Refusal::GcdZero);
+    }
+    let count = match vint::read(s, gcd.next) {
+        VintRead::Value(v) => v,
+        VintRead::Refused(r) => return HeadRead::Refused(r),
+    };
+    if !bounds_fit(minimum.value, count.value, gcd.value) {
+        return HeadRead::Refused(Refusal::OutOfRange);
+    }
+    let rows = match vint::read(s, count.next) {
+        VintRead::Value(v) => v,
+        VintRead::Refused(r) => return HeadRead::Refused(r),
+    };
+    if rows.value > 0xffff_ffff {
+        return HeadRead::Refused(Refusal::OutOfRange);
+    }
+    HeadRead::Head(Head {
+        minimum: minimum.value,
+        gcd: gcd.value,
+        count: count.value,
+        rows: rows.value as u32,
+        next: rows.next,
+    })
+}
