@@ -4,12 +4,17 @@ ghost use Prim.Native.Nat.{_+_, _*_, _^_, _≤_, _<_};
 ghost use lib.Dec.{ltb};
 ghost use lib.ListN.{length};
 ghost use Rattle.format.specs.Outcome.{Wrote};
+ghost use Rattle.format.specs.Refusals.{rowMeaning};
+ghost use Rattle.format.specs.Reading.{scaled};
 ghost use Rattle.format.specs.Stats.{gcd, distance, statsOf, countOf, spellHead, readHead};
 ghost use Rattle.stats.specs.Meaning.{headMeaning};
 ghost use Rattle.stats.specs.Asked.{Sound};
+use format::Column;
+use format::ColumnRow;
 use format::ColumnStats;
 use format::Head;
 use format::Refusal;
+use format::RowRead;
 use vint::VintRead;
 
 // The greatest common divisor, by Euclid's rule.
@@ -117,6 +122,17 @@ pub fn bounds_fit(minimum: u64, count: u64, gcd: u64) -> bool
         return true;
     }
     count <= (u64::MAX - minimum) / gcd
+}
+
+// Internal: asks for a maximum of 64 bits. The value so many steps of the gcd above the minimum, which stands in a row of the column.
+pub fn scaled(column: Column, row: ColumnRow, multiple: u64) -> RowRead
+    requires { ⌜ column .minimum + column .count * column .gcd < 2 ^ 64 ⌝ }
+    ensures { λ r. ⌜ rowMeaning r ≡ scaled column (row .0) multiple ⌝ }
+{
+    if column.count < multiple {
+        return RowRead::Refused(Refusal::OutOfBounds { row: row.0 });
+    }
+    RowRead::Value(column.minimum + column.gcd * multiple)
 }
 
 // What reading a head finds.

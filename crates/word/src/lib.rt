@@ -1,7 +1,8 @@
 // Arithmetic on words: sums, differences and products modulo 2^64, as Rust's `wrapping_add` and its kin compute them, and
 // what else of Rust's integers is not there as a function.
 ghost use mathlib.Core.Path.{_≡_};
-ghost use Prim.Native.Nat.{min, max};
+ghost use Prim.Native.Nat.{_+_, min, max};
+ghost use lib.Dec.{leb};
 ghost use Rattle.format.specs.Word.{modAdd, modSub, modMul, signed32};
 
 // a + b modulo 2^64.
@@ -58,4 +59,14 @@ pub fn larger(a: u64, b: u64) -> u64
     ensures { λ r. ⌜ r ≡ max a b ⌝ }
 {
     if a < b { b } else { a }
+}
+
+// Whether `size` bytes from `from` on end at `end` or before. The sum is not formed, so it cannot wrap.
+pub fn ends_within(from: usize, size: usize, end: usize) -> bool
+    ensures { λ r. ⌜ r ≡ leb (from + size) end ⌝ }
+{
+    if end < from {
+        return false;
+    }
+    size <= end - from
 }
