@@ -1,0 +1,70 @@
+-- `bitpacked::reader::get_val` meets its contract: the part from the area's start on holds the row's number, at the width of the count.
+-- Assumes nothing.
+use Prim.Native.Nat.{ℕ, _+_, _-_}
+use mathlib.Core.Path.{_≡_, sym, ap, _∙_}
+use mathlib.Core.Bool.{true}
+use mathlib.Core.List.{List}
+use native.Mathlib.Nat.{add-zero}
+use denote.Ref.{now}
+use lib.ListN.{length, take, drop}
+use borrow.Rule.Slice.PartAt.{part-to-end}
+use borrow.Author.Needs.{needs}
+use Rattle.format.specs.declared.Block.{Block}
+use Rattle.format.specs.declared.Codec.{Codec}
+use Rattle.format.specs.declared.Codec.the-variants.{Bitpacked}
+use Rattle.format.specs.declared.Column.{Column}
+use Rattle.format.specs.Outcome.{Outcome}
+use Rattle.format.specs.Packing.{width, legal, unpack}
+use Rattle.format.specs.Reading.{placeIn, packedOf, scaled, valueIn}
+use Rattle.format.proofs.Widths.{width-legal}
+use Rattle.bitpacked.proofs.reader.get_val.Statement.{statement}
+use Rattle.bitpacked.proofs.reader.get_val.Tie as tie
+
+-- a number of the width of the count, read from the rest of the bytes, is the row's
+module _ (col : Column) (b : Block) (s : List ℕ) (r : ℕ) (codec : col .codec ≡ Bitpacked) where
+  number-is : {w n : ℕ} → w ≡ width (col .count) → n ≡ unpack w (take (length s - col .start) (drop (col .start) s)) r → n ≡ packedOf col b s r
+  unfolding packedOf placeIn
+  number-is {w} {n} wide e =
+      rw (codec, add-zero)
+      (e ∙ rw (part-to-end s (col .start), wide))
+
+  value-is : {o : Outcome ℕ} {n : ℕ} → n ≡ packedOf col b s r → o ≡ scaled col r n → o ≡ valueIn (col .codec) col b r (packedOf col b s r)
+  unfolding valueIn
+  value-is is e = e ∙ ap (scaled col r) is ∙ ap (λ (k : Codec). valueIn k col b r (packedOf col b s r)) (sym codec)
+
+compute-num-bits-requires : tie.Need-compute-num-bits-requires
+compute-num-bits-requires c κs = search needs
+
+sub-get : tie.Need-sub-get
+sub-get c = search needs
+
+part-get-start : tie.Need-part-get-start
+part-get-start c = search needs
+
+part-get-end : tie.Need-part-get-end
+part-get-end c = search needs
+
+get-requires : tie.Need-get-requires
+get-requires c κs = ap legal (c .before .compute-num-bits .ensures) ∙ width-legal _
+
+scaled-requires : tie.Need-scaled-requires
+scaled-requires c κs = search needs
+
+returns : tie.Need-returns
+returns c block =
+    let a = c .before .before .before .before .before .args in
+    let codec = c .before .before .before .before .before .pre .codec in
+    let number = number-is (a .column) block (now (a .bytes)) (a .row .0) codec (c .before .before .before .compute-num-bits .ensures) (c .before .get .ensures) in
+    value-is (a .column) block (now (a .bytes)) (a .row .0) codec number (c .scaled .ensures)
+
+pub get-val-spec : {M : Type 1} → statement M
+get-val-spec =
+    tie.close
+    (tie.spec
+    compute-num-bits-requires
+    sub-get
+    part-get-start
+    part-get-end
+    get-requires
+    scaled-requires
+    returns)

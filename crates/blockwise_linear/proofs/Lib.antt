@@ -1,0 +1,2 @@
+pub mod Footers
+pub mod Passes

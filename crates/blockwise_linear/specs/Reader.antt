@@ -1,0 +1,90 @@
+-- What the inner answers of reading mean, and what its inner functions ask.
+-- Assumes nothing.
+use Prim.Native.Nat.{ℕ, _+_, _-_, _*_, _^_, _≤_, _<_, min}
+use mathlib.Core.Path.{_≡_}
+use mathlib.Core.List.{List}
+use mathlib.Core.Bool.{true}
+use mathlib.Core.Logic.{_⊎_}
+use lib.ListN.{length, take, drop}
+use Rattle.format.specs.declared.Fields.{Fields}
+use Rattle.format.specs.declared.Block.{Block}
+use Rattle.format.specs.declared.Codec.the-variants.{Blockwise}
+use Rattle.format.specs.declared.Column.{Column}
+use Rattle.format.specs.Outcome.{Outcome, Outcome.value, _>>=_}
+use Rattle.format.specs.Refusals.{numbered}
+use Rattle.format.specs.Word.{bytesFor}
+use Rattle.format.specs.Packing.{bytesNum, legal}
+use Rattle.format.specs.Bodies.{blockCount}
+use Rattle.format.specs.Opening.{Table, readFields, readBlocks}
+use Rattle.blockwise_linear.specs.declared.reader.Cursor.{Cursor}
+use Rattle.blockwise_linear.specs.declared.reader.Step.{Step}
+use Rattle.blockwise_linear.specs.declared.reader.StepRead.{StepRead}
+use Rattle.blockwise_linear.specs.declared.reader.StepRead.the-variants.{Step as Read, Refused as NotRead}
+use Rattle.blockwise_linear.specs.declared.reader.AreaRead.{AreaRead}
+use Rattle.blockwise_linear.specs.declared.reader.AreaRead.the-variants.{Area, Refused as NoArea}
+
+-- the bytes before the footer's length: no field of the footer reaches into that
+abbrev pub upToLength : List ℕ → List ℕ
+upToLength s = take (length s - 4) s
+
+-- the length of the footer, as the four bytes behind it say
+abbrev pub lengthIn : List ℕ → ℕ
+lengthIn s = bytesNum (drop (length s - 4) s)
+
+-- the place of the first block of so many rows
+abbrev pub firstCursor : (s : List ℕ) (rows : ℕ) → Cursor
+firstCursor s rows = record { at = length s - 4 - lengthIn s; start = 0; left = rows }
+
+-- the block of some fields at a place, and the place behind it
+abbrev pub stepOf : Cursor → Fields → Step
+stepOf c f =
+    record {
+      block = record { line = f .line; bits = f .bits; start = c .start };
+      next = record { at = f .next; start = c .start + bytesFor (f .bits * min (c .left) 512); left = c .left - 512 };
+    }
+
+-- reading the block at a place
+unfoldable pub stepIn : (s : List ℕ) → Cursor → Outcome Step
+stepIn s c = readFields (upToLength s) (c .at) >>= (λ (f : Fields). value (stepOf c f))
+
+-- reading all blocks from a place on
+abbrev pub blocksFrom : (s : List ℕ) → Cursor → Outcome Table
+blocksFrom s c = readBlocks (blockCount (c .left)) (upToLength s) (c .at) (c .start) (c .left)
+
+-- what was read, as the area's bytes alone, and as the table's numbers alone
+abbrev pub areaIn : Outcome Table → Outcome ℕ
+areaIn o = o >>= (λ (t : Table). value (t .area))
+
+abbrev pub numbersIn : Outcome Table → Outcome (List ℕ)
+numbersIn o = o >>= (λ (t : Table). value (t .numbers))
+
+-- what reading a block found
+abbrev pub stepMeaning : StepRead → Outcome Step
+stepMeaning (Read s) = value s
+stepMeaning (NotRead r) = numbered r
+
+-- what checking the blocks found
+abbrev pub areaMeaning : AreaRead → Outcome ℕ
+areaMeaning (Area n) = value n
+areaMeaning (NoArea r) = numbered r
+
+-- a place whose area can be counted: a row takes at most eight bytes
+pub record Small (c : Cursor) : Type 0 where
+  pub bytes : c .start + 8 * c .left < 2 ^ 36
+
+-- an outcome that is no refusal
+pub record Good {A : Type 0} (o : Outcome A) : Type 0 where
+  pub found : A
+  pub is : o ≡ value found
+
+-- the blocks of so many rows were checked, and a table of so many numbers has room for them
+pub record Fillable (s : List ℕ) (rows room : ℕ) : Type 0 where
+  pub checked : Good (blocksFrom s (firstCursor s rows))
+  pub enough : 4 * blockCount rows ≤ room
+
+-- the codec, a maximum of 64 bits, a legal width of the row's block, and a block that starts within the bytes if it has bits at all
+pub record Readable (col : Column) (b : Block) (s : List ℕ) : Type 0 where
+  pub codec : col .codec ≡ Blockwise
+  pub bounds : col .minimum + col .count * col .gcd < 2 ^ 64
+  pub lawful : legal (b .bits) ≡ true
+  pub start : (b .bits ≡ 0) ⊎ (col .start + b .start ≤ length s)

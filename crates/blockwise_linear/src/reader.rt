@@ -1,0 +1,289 @@
+// Reading: opening a column behind its head, the block table, and a row of an opened column.
+//
+// The footer is read twice. The first pass reads every block's fields and adds up the area, before anything is decided; the
+// second puts the blocks into the table, once they are known to be good. Only `fill` writes a table and only `block_at` reads
+// one; everything else takes a block by value.
+ghost use mathlib.Core.Path.{_≡_};
+ghost use mathlib.Core.Bool.{_&&_};
+ghost use Prim.Native.Nat.{_+_, _-_, min, _/_, _%_};
+ghost use lib.Dec.{leb};
+ghost use lib.ListN.{length, drop, getD};
+ghost use Rattle.format.specs.Outcome.{Outcome.value, stored};
+ghost use Rattle.format.specs.Packing.{bytesNum, unpack};
+ghost use Rattle.format.specs.Refusals.{openedMeaning, rowMeaning};
+ghost use Rattle.format.specs.Opening.{openBlockwise, columnIn};
+ghost use Rattle.format.specs.Reading.{blockAt, packedOf, valueIn};
+ghost use Rattle.blockwise_linear.specs.Reader.{stepMeaning, areaMeaning, stepIn, blocksFrom, areaIn, numbersIn, firstCursor, Small, Good, Fillable, Readable};
+use format::Block;
+use format::BlockRow;
+use format::Codec;
+use format::Column;
+use format::ColumnRow;
+use format::Head;
+use format::Line;
+use format::Opened;
+use format::Refusal;
+use format::RowRead;
+use line::FieldsRead;
+
+// A block of a table that has none.
+const NO_BLOCK: Block = Block {
+    line: Line {
+        slope: 0,
+        intercept: 0,
+    },
+    bits: 0,
+    start: 0,
+};
+
+// A place in the footer: the offset of the next block's fields, the byte of the area where that block starts, and the rows
+// from it on.
+pub struct Cursor {
+    pub at: usize,
+    pub start: usize,
+    pub left: u32,
+}
+
+// A block, and the place behind it.
+pub struct Step {
+    pub block: Block,
+    pub next: Cursor,
+}
+
+// What reading a block finds.
+pub enum StepRead {
+    Step(Step),
+    Refused(Refusal),
+}
+
+// What checking all blocks finds: how many bytes their area takes.
+pub enum AreaRead {
+    Area(usize),
+    Refused(Refusal),
+}
+
+// Where the footer ends: four bytes before the end of the column.
+fn footer_end(bytes: &[u8]) -> usize
+    ensures { λ r. ⌜ r ≡ length (now (bytes .entry)) - 4 ⌝ }
+{
+    if bytes.len() < 4 {
+        return 0;
+    }
+    bytes.len() - 4
+}
+
+// The footer's length: the bytes behind it, little end first.
+fn footer_len(bytes: &[u8]) -> usize
+    ensures { λ r. ⌜ r ≡ bytesNum (drop (length (now (bytes .entry)) - 4) (now (bytes .entry))) ⌝ }
+{
+    let end = footer_end(bytes);
+    let mut long: u64 = 0;
+    let mut at = bytes.len();
+    while end < at {
+        at -= 1;
+        long = long * 256 + word::wide(bytes[at]);
+    }
+    long as usize
+}
+
+// Whether the footer and the four bytes of its length lie behind the head, which ends at `next`.
+fn footer_fits(bytes: &[u8], next: usize) -> bool
+    ensures { λ r. ⌜ r ≡ (leb (next + 4) (length (now (bytes .entry))) && leb (next + bytesNum (drop (length (now (bytes .entry)) - 4) (now (bytes .entry)))) (length (now (bytes .entry)) - 4)) ⌝ }
+{
+    if !word::ends_within(next, 4, bytes.len()) {
+        return false;
+    }
+    word::ends_within(next, footer_len(bytes), footer_end(bytes))
+}
+
+// The place of the first block of so many rows: where the footer starts.
+fn first(bytes: &[u8], rows: u32) -> Cursor
+    ensures { λ r. ⌜ r ≡ firstCursor (now (bytes .entry)) rows ⌝ }
+{
+    let end = footer_end(bytes);
+    let long = footer_len(bytes);
+    let at = if end < long { 0 } else { end - long };
+    Cursor {
+        at,
+        start: 0,
+        left: rows,
+    }
+}
+
+// The rows of a block with so many rows from it on: 512, in the last perhaps fewer.
+fn block_rows(left: u32) -> u32
+    ensures { λ r. ⌜ r ≡ min left 512 ⌝ }
+{
+    if left < 512 { left } else { 512 }
+}
+
+// Internal: asks that the area's bytes can be counted. The block at a place; its fields are read inside the footer's own bytes.
+fn step_read(bytes: &[u8], c: Cursor) -> StepRead
+    requires { ⌜ Small c ⌝ }
+    ensures { λ r. ⌜ stepMeaning r ≡ stepIn (now (bytes .entry)) c ⌝ }
+{
+    let end = footer_end(bytes);
+    let fields = match line::fields_read(&bytes[..end], c.at) {
+        FieldsRead::Fields(f) => f,
+        FieldsRead::Refused(r) => return StepRead::Refused(r),
+    };
+    let line = fields.line;
+    let rows = block_rows(c.left);
+    StepRead::Step(Step {
+        block: Block {
+            line,
+            bits: fields.bits as u64,
+            start: c.start as u64,
+        },
+        next: Cursor {
+            at: fields.next,
+            start: c.start + bitpacker::packed_len(rows as usize, fields.bits),
+            left: c.left - rows,
+        },
+    })
+}
+
+// Internal: asks that the area's bytes can be counted. The first pass: every block from a place on is read, and their area
+// added up.
+fn check(bytes: &[u8], place: Cursor) -> AreaRead
+    requires { ⌜ Small place ⌝ }
+    ensures { λ r. ⌜ areaMeaning r ≡ areaIn (blocksFrom (now (bytes .entry)) place) ⌝ }
+{
+    let mut c = place;
+    while 0 < c.left {
+        let step = match step_read(bytes, c) {
+            StepRead::Step(s) => s,
+            StepRead::Refused(r) => return AreaRead::Refused(r),
+        };
+        c = step.next;
+    }
+    AreaRead::Area(c.start)
+}
+
+// The column of a head: its area comes behind it, and has to end before the footer.
+pub fn load(bytes: &[u8], head: Head, room: usize) -> Opened
+    ensures { λ r. ⌜ openedMeaning r ≡ columnIn (openBlockwise (now (bytes .entry)) head room) ⌝ }
+{
+    if !footer_fits(bytes, head.next) {
+        return Opened::Refused(Refusal::AreaShort);
+    }
+    let blocks = (head.rows as usize + 511) / 512;
+    if room < blocks {
+        return Opened::Refused(Refusal::TableShort { blocks });
+    }
+    let footer = first(bytes, head.rows);
+    let size = match check(bytes, footer) {
+        AreaRead::Area(n) => n,
+        AreaRead::Refused(r) => return Opened::Refused(r),
+    };
+    if !word::ends_within(head.next, size, footer.at) {
+        return Opened::Refused(Refusal::AreaShort);
+    }
+    Opened::Column(Column {
+        minimum: head.minimum,
+        gcd: head.gcd,
+        count: head.count,
+        rows: head.rows,
+        start: head.next,
+        size,
+        codec: Codec::Blockwise,
+    })
+}
+
+// Internal: asks for a block that was checked, and that the area's bytes can be counted. The block at a place.
+fn next_block(bytes: &[u8], c: Cursor) -> Step
+    requires { ⌜ Small c ⌝ }
+    requires { ⌜ Good (stepIn (now bytes) c) ⌝ }
+    ensures { λ r. ⌜ stepIn (now (bytes .entry)) c ≡ value r ⌝ }
+{
+    match step_read(bytes, c) {
+        StepRead::Step(s) => s,
+        StepRead::Refused(_) => Step {
+            block: NO_BLOCK,
+            next: c,
+        },
+    }
+}
+
+// Internal: asks for blocks that were checked, and for room. The second pass: the blocks of so many rows are put into the
+// table, four numbers a block: slope, intercept, width, start byte.
+pub fn fill(bytes: &[u8], rows: u32, table: &mut [u64])
+    requires { ⌜ Fillable (now bytes) rows (length (now table)) ⌝ }
+    ensures { λ _. ⌜ now (table .exit) ≡ stored (numbersIn (blocksFrom (now (bytes .entry)) (firstCursor (now (bytes .entry)) rows))) (now (table .entry)) ⌝ }
+{
+    let mut c = first(bytes, rows);
+    let mut i: usize = 0;
+    while 0 < c.left {
+        let step = next_block(bytes, c);
+        table[i] = step.block.line.slope;
+        table[i + 1] = step.block.line.intercept;
+        table[i + 2] = step.block.bits;
+        table[i + 3] = step.block.start;
+        c = step.next;
+        i += 4;
+    }
+}
+
+// Number `i` of a table, 0 past its end.
+fn number_at(table: &[u64], i: usize) -> u64
+    ensures { λ r. ⌜ r ≡ getD (now (table .entry)) i 0 ⌝ }
+{
+    if i < table.len() { table[i] } else { 0 }
+}
+
+// Block `k` of a table; numbers past the table's end are zeros.
+pub fn block_at(table: &[u64], k: usize) -> Block
+    ensures { λ r. ⌜ r ≡ blockAt (now (table .entry)) k ⌝ }
+{
+    if table.len() <= k {
+        return NO_BLOCK;
+    }
+    let i = 4 * k;
+    Block {
+        line: Line {
+            slope: number_at(table, i),
+            intercept: number_at(table, i + 1),
+        },
+        bits: number_at(table, i + 2),
+        start: number_at(table, i + 3),
+    }
+}
+
+// A row of the column by its block: the block's number, and the row's within it.
+pub struct InBlock {
+    pub block: usize,
+    pub row: BlockRow,
+}
+
+// The only passage from a row of the column to a row of a block.
+pub fn split(row: ColumnRow) -> InBlock
+    ensures { λ r. ⌜ (r .block ≡ row .0 / 512) × (r .row .0 ≡ row .0 % 512) ⌝ }
+{
+    InBlock {
+        block: (row.0 / 512) as usize,
+        row: BlockRow(row.0 % 512),
+    }
+}
+
+// The packed number of a row of a block. A block of no bits may start anywhere.
+fn residual(column: Column, block: Block, bytes: &[u8], row: BlockRow) -> u64
+    requires { ⌜ Readable column block (now bytes) ⌝ }
+    ensures { λ r. ⌜ r ≡ unpack (block .bits) (drop (column .start + block .start) (now (bytes .entry))) (row .0) ⌝ }
+{
+    if block.bits == 0 {
+        return 0;
+    }
+    let start = column.start + block.start as usize;
+    bitpacker::get(&bytes[start..], block.bits as u8, row.0)
+}
+
+// Internal: asks for a Blockwise column whose maximum has 64 bits, and a block of a legal width that starts within the bytes if it has bits at all. The value of a row, with the row's block.
+pub fn get_val(column: Column, block: Block, bytes: &[u8], row: ColumnRow) -> RowRead
+    requires { ⌜ Readable column block (now bytes) ⌝ }
+    ensures { λ r. ⌜ rowMeaning r ≡ valueIn (column .codec) column block (row .0) (packedOf column block (now (bytes .entry)) (row .0)) ⌝ }
+{
+    let within = split(row).row;
+    let number = residual(column, block, bytes, within);
+    let multiple = word::add(line::eval(block.line, within.0 as u64), number);
+    stats::scaled(column, row, multiple)
+}
