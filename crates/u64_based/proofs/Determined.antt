@@ -1,0 +1,40 @@
+-- The contracts of the entry points determine what they answer and what every lent entry holds afterwards: two results that they allow coincide.
+--     open-plain-determined, open-determined, row-determined, lookup-determined
+-- Assumes nothing.
+use Prim.Native.Nat.{ℕ, _/_}
+use mathlib.Core.Path.{_≡_, sym, _∙_}
+use mathlib.Core.List.{List}
+use lib.ListN.{length}
+use Rattle.format.specs.declared.Column.{Column}
+use Rattle.format.specs.declared.Found.{Found}
+use Rattle.format.specs.declared.Opened.{Opened}
+use Rattle.format.specs.declared.RowRead.{RowRead}
+use Rattle.format.specs.Lookup.{lookedUp, within}
+use Rattle.format.specs.Opening.{opened, columnIn}
+use Rattle.format.specs.Reading.{rowAt}
+use Rattle.format.specs.Refusals.{openedMeaning, rowMeaning}
+use Rattle.format.proofs.Answers.{opened-injective, row-injective, found-injective}
+use Rattle.u64_based.specs.Opened.{OpenedAs}
+use Rattle.u64_based.specs.Lookup.{LookedUp}
+
+-- two answers of `open_plain`
+pub open-plain-determined : (s : List ℕ) (room : ℕ) (a b : Opened) → openedMeaning a ≡ columnIn (opened s room) → openedMeaning b ≡ columnIn (opened s room) → a ≡ b
+open-plain-determined s room a b p q = opened-injective a b (p ∙ sym q)
+
+-- two answers of `open`, and what the lent table holds afterwards
+pub open-determined : (s table : List ℕ) (a b : Opened) (after after′ : List ℕ)
+    → OpenedAs (opened s (length table / 4)) a table after → OpenedAs (opened s (length table / 4)) b table after′ → (a ≡ b) × (after ≡ after′)
+open-determined s table a b after after′ p q = (opened-injective a b (p .answer ∙ sym (q .answer)), p .table ∙ sym (q .table))
+
+-- two answers of `row`
+pub row-determined : (column : Column) (table bytes : List ℕ) (row : ℕ) (a b : RowRead)
+    → rowMeaning a ≡ rowAt column table bytes row → rowMeaning b ≡ rowAt column table bytes row → a ≡ b
+row-determined column table bytes row a b p q = row-injective a b (p ∙ sym q)
+
+-- two answers of `lookup`, and what the lent list holds afterwards
+pub lookup-determined : (column : Column) (table bytes : List ℕ) (low high first end : ℕ) (found : List ℕ) (a b : Found) (after after′ : List ℕ)
+    → LookedUp (lookedUp (rowAt column table bytes) (column .rows) (within low high) first end (length found)) a found after
+    → LookedUp (lookedUp (rowAt column table bytes) (column .rows) (within low high) first end (length found)) b found after′
+    → (a ≡ b) × (after ≡ after′)
+lookup-determined column table bytes low high first end found a b after after′ p q =
+    (found-injective a b (p .answer ∙ sym (q .answer)), p .list ∙ sym (q .list))

@@ -1,0 +1,13 @@
+-- Laws of the entry points; the head of each file lists what it offers.
+
+-- opening
+pub mod Opens
+-- reading a row
+pub mod Fitting
+-- looking rows up
+pub mod Turns
+pub mod Counting
+pub mod Filling
+pub mod Looking
+-- what the contracts come to
+pub mod Determined

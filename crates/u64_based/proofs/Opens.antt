@@ -1,0 +1,72 @@
+-- Opening in the order of the code, and the table that belongs to its answer.
+--     opened-none, opened-unknown, opened-known         the code byte decides first; a known one leaves the head and the body
+--     body-blockwise                                    the body of a code that is neither 0 nor 1
+--     Tabled, opened-tabled                             the blocks of the rows that an answer has in the table were checked, fit the room, and are the rule's numbers
+-- Assumes nothing.
+use Prim.Native.Nat.{ℕ, zero, suc, _/_, _≤_, _<_}
+use mathlib.Core.Path.{_≡_, refl}
+use mathlib.Core.List.{List, [], _∷_}
+use native.Mathlib.Omega.{arith}
+use lib.ListN.{length, getD}
+use borrow.Author.Tests.{le-leb, lt-leb}
+use Rattle.format.specs.declared.Fields.{Fields}
+use Rattle.format.specs.declared.Head.{Head}
+use Rattle.format.specs.Outcome.{Outcome, Outcome.value, Outcome.refusal, _>>=_, stored}
+use Rattle.format.specs.Stats.{readHead}
+use Rattle.format.specs.Opening.{Loaded, Table, readBlocks, openBlockwise, openBody, opened, columnIn, tableIn}
+use Rattle.format.proofs.Openings.{OpensBitpacked, OpensLinear, OpensBlockwise, by-opening}
+use Rattle.blockwise_linear.specs.Reader.{firstCursor, blocksFrom, numbersIn, Fillable}
+use Rattle.u64_based.specs.Opened.{tabled}
+
+-- ---- the code byte
+
+pub opened-none : (s : List ℕ) (room : ℕ) → length s ≡ 0 → opened s room ≡ refusal 5 []
+unfolding opened
+opened-none [] room e = refl
+opened-none (c ∷ s) room e = absurd (omega arith)
+
+pub opened-unknown : (s : List ℕ) (room : ℕ) → 0 < length s → 2 < getD s 0 0 → opened s room ≡ refusal 5 []
+unfolding opened
+opened-unknown [] room some over = refl
+opened-unknown (c ∷ s) room some over = rw (lt-leb c 2 over)
+
+pub opened-known : (s : List ℕ) (room : ℕ) → 0 < length s → getD s 0 0 ≤ 2 → opened s room ≡ (readHead s >>= (λ (h : Head). openBody (getD s 0 0) s h room))
+unfolding opened
+opened-known [] room some known = absurd (let none : 0 < 0 = some in omega arith)
+opened-known (c ∷ s) room some known = rw (le-leb c 2 known)
+
+pub body-blockwise : (code : ℕ) (s : List ℕ) (h : Head) (room : ℕ) → (code ≡ 0 → ⊥) → (code ≡ 1 → ⊥) → openBody code s h room ≡ openBlockwise s h room
+unfolding openBody
+body-blockwise zero s h room n0 n1 = absurd (n0 refl)
+body-blockwise (suc zero) s h room n0 n1 = absurd (n1 refl)
+body-blockwise (suc (suc c)) s h room n0 n1 = refl
+
+-- ---- the table
+
+pub record Tabled (s : List ℕ) (room : ℕ) (o : Outcome Loaded) : Type 0 where
+  pub fillable : (long : ℕ) → room ≡ long / 4 → Fillable s (tabled (columnIn o)) long
+  pub same : (l : List ℕ) → stored (numbersIn (blocksFrom s (firstCursor s (tabled (columnIn o))))) l ≡ stored (tableIn o) l
+
+-- no rows have no blocks
+none-fillable : (s : List ℕ) (long : ℕ) → Fillable s 0 long
+unfolding readBlocks
+none-fillable s long = record { checked = record { found = record { numbers = []; area = 0 }; is = refl }; enough = omega arith }
+
+none-same : (s l : List ℕ) → stored (numbersIn (blocksFrom s (firstCursor s 0))) l ≡ l
+unfolding readBlocks
+none-same s l = refl
+
+pub opened-tabled : (s : List ℕ) (room : ℕ) → Tabled s room (opened s room)
+opened-tabled s room = go (opened s room) refl
+  where
+    go : (o : Outcome Loaded) → opened s room ≡ o → Tabled s room o
+    go (value o) e =
+        by-opening (λ (o : Loaded). Tabled s room (value o)) s room
+        (λ (h : Head) (f : OpensBitpacked s h). record { fillable = λ long fit. none-fillable s long; same = none-same s })
+        (λ (h : Head) (g : Fields) (f : OpensLinear s h g). record { fillable = λ long fit. none-fillable s long; same = none-same s })
+        (λ (h : Head) (t : Table) (f : OpensBlockwise s h room t). record {
+          fillable = λ (long : ℕ) (fit : room ≡ long / 4). record { checked = record { found = t; is = f .blocks }; enough = omega (arith, f .enough) };
+          same = λ (l : List ℕ). rw (f .blocks);
+        })
+        o e
+    go (refusal n also) e = record { fillable = λ long fit. none-fillable s long; same = none-same s }

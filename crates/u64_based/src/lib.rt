@@ -1,0 +1,88 @@
+// A column of numbers of 64 bits: the entry points. No argument makes a call fail but by a numbered refusal, and each contract
+// says what a call answers and what every lent entry holds afterwards.
+pub mod finding;
+pub mod opening;
+pub mod reader;
+
+ghost use mathlib.Core.Path.{_≡_};
+ghost use Prim.Native.Nat.{_/_};
+ghost use lib.ListN.{length};
+ghost use Rattle.format.specs.Refusals.{openedMeaning, rowMeaning};
+ghost use Rattle.format.specs.Opening.{columnIn, opened};
+ghost use Rattle.format.specs.Lookup.{lookedUp, within};
+ghost use Rattle.format.specs.Reading.{rowAt};
+ghost use Rattle.u64_based.specs.Opened.{OpenedAs};
+ghost use Rattle.u64_based.specs.Lookup.{LookedUp};
+use format::Column;
+use format::ColumnRow;
+use format::Found;
+use format::Opened;
+use format::Refusal;
+use format::RowRead;
+use stats::HeadRead;
+
+// Opens a column, for a table with room for so many blocks. All of opening's decisions fall here, on the bytes and the room
+// alone; the table itself is not needed for them.
+pub fn open_plain(bytes: &[u8], room: usize) -> Opened
+    ensures { λ r. ⌜ openedMeaning r ≡ columnIn (opened (now (bytes .entry)) room) ⌝ }
+{
+    if bytes.len() == 0 {
+        return Opened::Refused(Refusal::NotAColumn);
+    }
+    let code = bytes[0];
+    if 2 < code {
+        return Opened::Refused(Refusal::NotAColumn);
+    }
+    let head = match stats::head_read(bytes) {
+        HeadRead::Head(h) => h,
+        HeadRead::Refused(r) => return Opened::Refused(r),
+    };
+    opening::load(code, bytes, head, room)
+}
+
+// Opens a column, and puts the blocks of a Blockwise one into the lent table, four numbers a block. A refusal leaves the table
+// as it was; so does a column without blocks.
+pub fn open(bytes: &[u8], table: &mut [u64]) -> Opened
+    ensures { λ r. ⌜ OpenedAs (opened (now (bytes .entry)) (length (now (table .entry)) / 4)) r (now (table .entry)) (now (table .exit)) ⌝ }
+{
+    let room = table.len() / 4;
+    let answer = open_plain(bytes, room);
+    let rows = opening::table_rows(answer);
+    blockwise_linear::reader::fill(bytes, rows, table);
+    answer
+}
+
+// The value of a row of an opened column, with its table and its bytes.
+pub fn row(column: Column, table: &[u64], bytes: &[u8], row: ColumnRow) -> RowRead
+    ensures { λ r. ⌜ rowMeaning r ≡ rowAt column (now (table .entry)) (now (bytes .entry)) (row .0) ⌝ }
+{
+    let k = blockwise_linear::reader::split(row).block;
+    let block = blockwise_linear::reader::block_at(table, k);
+    reader::row_in(column, table.len() / 4, block, bytes, row)
+}
+
+// The rows from `first` to `end`, cut to the column's rows, whose value lies from `low` to `high`, ascending into the first entries of `found`. The
+// first row that reading refuses decides, so the rows are counted before any is stored.
+pub fn lookup(
+    column: Column,
+    table: &[u64],
+    bytes: &[u8],
+    low: u64,
+    high: u64,
+    first: u32,
+    end: u32,
+    found: &mut [u32],
+) -> Found
+    ensures { λ r. ⌜ LookedUp (lookedUp (rowAt column (now (table .entry)) (now (bytes .entry))) (column .rows) (within low high) first end (length (now (found .entry)))) r (now (found .entry)) (now (found .exit)) ⌝ }
+{
+    let last = finding::cut(end, column.rows);
+    let counted = finding::count(column, table, bytes, low, high, first, last);
+    let Found::Rows(n) = counted else {
+        return counted;
+    };
+    if found.len() < n {
+        return Found::Refused(Refusal::ListShort { found: n });
+    }
+    finding::fill(column, table, bytes, low, high, first, last, found);
+    Found::Rows(n)
+}
