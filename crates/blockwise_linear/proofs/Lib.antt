@@ -1,2 +1,11 @@
+-- Laws that the functions' proofs cite; the head of each file lists what it offers.
+
+-- reading the footer
 pub mod Footers
 pub mod Passes
+-- writing blocks
+pub mod Filling
+pub mod Blocks
+pub mod Parts
+pub mod Walks
+pub mod Body
