@@ -1,7 +1,7 @@
 -- The whole body and its estimate, from what the blocks take.
 --     above-of                                the values can be normalised by their own statistics
 --     raw, raw-above                          by minimum 0 and gcd 1 they are themselves
---     takes-small                             fewer than 2^32 values take little, and their footer's length has four bytes
+--     takes-few                               fewer than 2^32 values take little, and their footer's length has four bytes
 --     body-length, body-takes, wrote-body     the body, part by part
 --     estimate-is, estimate-none              the estimate
 -- Assumes nothing.
@@ -22,7 +22,7 @@ use Rattle.format.proofs.Gathering.{length-numBytes}
 use Rattle.stats.specs.Asked.{Describes}
 use Rattle.stats.proofs.Described.{sound-of, value-above}
 use Rattle.blockwise_linear.specs.declared.writer.Sizes.{Sizes}
-use Rattle.blockwise_linear.specs.Writer.{normals, Above, areas, entries, Takes, Small}
+use Rattle.blockwise_linear.specs.Writer.{normals, Above, areas, entries, Takes, FewBytes}
 use Rattle.blockwise_linear.proofs.Blocks.{areas-few, entries-few, shares}
 
 -- ---- the values, normalised
@@ -42,8 +42,8 @@ raw-above vs = record { some = omega arith; each = λ k h. omega arith }
 
 -- ---- what the blocks take
 
-pub takes-small : (xs : List ℕ) (n : ℕ) {s : Sizes} → length xs ≡ n → n < 2 ^ 32 → Takes xs s → Small s
-takes-small xs n e h t = record { packs = omega (arith, t .packs, areas-few xs); fields = omega (arith, t .fields, entries-few xs) }
+pub takes-few : (xs : List ℕ) (n : ℕ) {s : Sizes} → length xs ≡ n → n < 2 ^ 32 → Takes xs s → FewBytes s
+takes-few xs n e h t = record { packs = omega (arith, t .packs, areas-few xs); fields = omega (arith, t .fields, entries-few xs) }
 
 -- ---- the body
 

@@ -4,7 +4,7 @@
 pub mod Footers
 pub mod Passes
 -- writing blocks
-pub mod Filling
+pub mod Filled
 pub mod Blocks
 pub mod Parts
 pub mod Walks

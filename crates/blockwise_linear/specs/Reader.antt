@@ -51,10 +51,11 @@ stepIn s c = readFields (upToLength s) (c .at) >>= (λ (f : Fields). value (step
 abbrev pub blocksFrom : (s : List ℕ) → Cursor → Outcome Table
 blocksFrom s c = readBlocks (blockCount (c .left)) (upToLength s) (c .at) (c .start) (c .left)
 
--- what was read, as the area's bytes alone, and as the table's numbers alone
+-- what was read, as the bytes of the area alone
 abbrev pub areaIn : Outcome Table → Outcome ℕ
 areaIn o = o >>= (λ (t : Table). value (t .area))
 
+-- and as the table's numbers alone
 abbrev pub numbersIn : Outcome Table → Outcome (List ℕ)
 numbersIn o = o >>= (λ (t : Table). value (t .numbers))
 

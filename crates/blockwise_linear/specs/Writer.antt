@@ -84,6 +84,6 @@ pub record Takes (xs : List ℕ) (sizes : Sizes) : Type 0 where
   pub fields : sizes .footer ≡ length (entries xs)
 
 -- sizes that fewer than 2^32 values can have; the footer's has four bytes
-pub record Small (sizes : Sizes) : Type 0 where
+pub record FewBytes (sizes : Sizes) : Type 0 where
   pub packs : sizes .area < 2 ^ 36
   pub fields : sizes .footer < 2 ^ 32

@@ -12,7 +12,7 @@ ghost use Rattle.format.specs.Line.{residuals};
 ghost use Rattle.format.specs.Bodies.{normalised, blockwise};
 ghost use Rattle.format.specs.Writing.{saving, sizeOf};
 ghost use Rattle.stats.specs.Asked.{Sound, Describes};
-ghost use Rattle.blockwise_linear.specs.Writer.{normals, partOf, Above, Part, Fitted, BlockTakes, Room, Places, Placed, areas, entries, Takes, Small};
+ghost use Rattle.blockwise_linear.specs.Writer.{normals, partOf, Above, Part, Fitted, BlockTakes, Room, Places, Placed, areas, entries, Takes, FewBytes};
 use format::ColumnStats;
 use format::Line;
 
@@ -269,7 +269,7 @@ fn saving_of(gcd: u64, rows: u32) -> u64
 // whose blocks take so much.
 pub fn body_len(stats: ColumnStats, sizes: Sizes) -> usize
     requires { ⌜ Sound stats ⌝ }
-    requires { ⌜ Small sizes ⌝ }
+    requires { ⌜ FewBytes sizes ⌝ }
     ensures { λ r. ⌜ r ≡ length (spellHead stats) + (sizes .area + sizes .footer) + 4 ⌝ }
 {
     stats::head_len(stats) + (sizes.area + sizes.footer) + 4

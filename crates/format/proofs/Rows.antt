@@ -3,10 +3,12 @@
 --     row-fits, row-answers, answer-is             column, table and bytes fit; the answer is the value of the packed number, or 14
 --     packed-same, bits-same, packed-small         a row's packed number and its bits
 --     value-tells                                  another packed number answers otherwise, unless both answers are 14
+--     own-row                                      a row of an opened column, read with the table that its opening filled, has a value or is refused 14
 -- Assumes nothing.
 use Prim.Native.Nat.{ℕ, _+_, _-_, _*_, _/_, _%_, _^_, _≤_, _<_}
 use mathlib.Core.Path.{_≡_, refl, sym, ap, _∙_, subst}
 use mathlib.Core.Bool.{Bool, true, false, _&&_, _||_}
+use mathlib.Core.Logic.{_⊎_, inl, inr}
 use mathlib.Core.List.{List, [], _∷_}
 use native.Mathlib.Nat.{eq-of-mul-eq-mul-left, pow-le-pow-right}
 use native.Mathlib.Omega.{arith}
@@ -18,16 +20,17 @@ use Rattle.format.specs.declared.Codec.{Codec}
 use Rattle.format.specs.declared.Codec.the-variants.{Bitpacked, Linear, Blockwise}
 use Rattle.format.specs.declared.Column.{Column}
 use Rattle.format.specs.declared.Block.{Block}
+use Rattle.format.specs.Outcome.{Outcome.value, Outcome.refusal, _>>_, demand}
 use Rattle.format.specs.Word.{modAdd}
 use Rattle.format.specs.Packing.{legal, unpack, bitAt}
 use Rattle.format.specs.Line.{lineAt}
-use Rattle.format.specs.Opening.{Loaded}
+use Rattle.format.specs.Opening.{Loaded, opened}
 use Rattle.format.specs.Reading.{Place, placeIn, placeOf, blockAt, hasBlock, fits, packedOf, valueIn, rowIn, rowAt}
 use Rattle.format.specs.Demands.{filledBy, answered, Owns, SameBits, Differ}
 use Rattle.format.proofs.Outcomes.{told-apart}
 use Rattle.format.proofs.Packing.{unpack-below, locality, row-bits, bitAt-drop}
 use Rattle.format.proofs.Widths.{legal-most}
-use Rattle.format.proofs.Laid.{Laid}
+use Rattle.format.proofs.Laid.{Laid, opened-laid}
 
 -- ---- a table in a lent list
 
@@ -176,3 +179,28 @@ value-tells Blockwise col b r n m some hn hm d =
     let y = modAdd (lineAt (b .line) (r % 512)) m in
     told-apart (leb x (col .count)) (leb y (col .count)) 14 (r ∷ []) (col .minimum + col .gcd * x) (col .minimum + col .gcd * y)
     (λ e. d (add-apart (lineAt (b .line) (r % 512)) n m hn hm (scale-apart (col .minimum) (col .gcd) x y some e)))
+
+-- ---- what a row of an opened column can answer
+
+-- a tested value
+tested : (test : Bool) (r v : ℕ) → ((w : ℕ) × ((demand test 14 (r ∷ []) >> value v) ≡ value w)) ⊎ ((demand test 14 (r ∷ []) >> value v) ≡ refusal 14 (r ∷ []))
+tested true r v = inl (v, refl)
+tested false r v = inr refl
+
+value-or-14 : (codec : Codec) (col : Column) (b : Block) (r n : ℕ)
+    → ((v : ℕ) × (valueIn codec col b r n ≡ value v)) ⊎ (valueIn codec col b r n ≡ refusal 14 (r ∷ []))
+unfolding valueIn
+value-or-14 Bitpacked col b r n = tested (leb n (col .count)) r (col .minimum + col .gcd * n)
+value-or-14 (Linear l w) col b r n =
+    let v = modAdd (lineAt l r) n in
+    tested (leb (col .minimum) v && leb v (col .minimum + col .gcd * col .count)) r v
+value-or-14 Blockwise col b r n =
+    let m = modAdd (lineAt (b .line) (r % 512)) n in
+    tested (leb m (col .count)) r (col .minimum + col .gcd * m)
+
+-- read with the table that its opening filled, it has a value or is refused 14: never 12, never 13
+pub own-row : (s table : List ℕ) (o : Loaded) → opened s (length table / 4) ≡ value o → (r : ℕ) → r < o .column .rows
+    → ((v : ℕ) × (answered o table s r ≡ value v)) ⊎ (answered o table s r ≡ refusal 14 (r ∷ []))
+own-row s table o e r h =
+    rw (answer-is (opened-laid s (length table / 4) o e) s (omega arith) r h table (omega arith))
+    (value-or-14 (o .column .codec) (o .column) (blockAt (o .table) (r / 512)) r (packedOf (o .column) (blockAt (o .table) (r / 512)) s r))

@@ -14,8 +14,7 @@ use Rattle.format.specs.Opening.{opened, columnIn}
 use Rattle.format.specs.Reading.{rowAt}
 use Rattle.format.specs.Refusals.{openedMeaning, rowMeaning}
 use Rattle.format.proofs.Answers.{opened-injective, row-injective, found-injective}
-use Rattle.u64_based.specs.Opened.{OpenedAs}
-use Rattle.u64_based.specs.Lookup.{LookedUp}
+use Rattle.u64_based.specs.Calls.{OpenedAs, FoundAs}
 
 -- two answers of `open_plain`
 pub open-plain-determined : (s : List ℕ) (room : ℕ) (a b : Opened) → openedMeaning a ≡ columnIn (opened s room) → openedMeaning b ≡ columnIn (opened s room) → a ≡ b
@@ -33,8 +32,8 @@ row-determined column table bytes row a b p q = row-injective a b (p ∙ sym q)
 
 -- two answers of `lookup`, and what the lent list holds afterwards
 pub lookup-determined : (column : Column) (table bytes : List ℕ) (low high first end : ℕ) (found : List ℕ) (a b : Found) (after after′ : List ℕ)
-    → LookedUp (lookedUp (rowAt column table bytes) (column .rows) (within low high) first end (length found)) a found after
-    → LookedUp (lookedUp (rowAt column table bytes) (column .rows) (within low high) first end (length found)) b found after′
+    → FoundAs (lookedUp (rowAt column table bytes) (column .rows) (within low high) first end (length found)) a found after
+    → FoundAs (lookedUp (rowAt column table bytes) (column .rows) (within low high) first end (length found)) b found after′
     → (a ≡ b) × (after ≡ after′)
 lookup-determined column table bytes low high first end found a b after after′ p q =
     (found-injective a b (p .answer ∙ sym (q .answer)), p .list ∙ sym (q .list))

@@ -11,3 +11,4 @@ pub mod Filling
 pub mod Looking
 -- what the contracts come to
 pub mod Determined
+pub mod Calls

@@ -17,7 +17,8 @@ use Rattle.format.specs.declared.Refusal.the-variants.{ListShort}
 use Rattle.format.specs.Lookup.{allRead, rowsPassing, lookedUp}
 use Rattle.format.specs.Outcome.{Outcome, Outcome.value, Outcome.refusal, _>>_}
 use Rattle.format.specs.Refusals.{foundMeaning}
-use Rattle.u64_based.specs.Lookup.{counted, LookedUp}
+use Rattle.u64_based.specs.Lookup.{counted}
+use Rattle.u64_based.specs.Calls.{FoundAs}
 
 -- where a run was counted, nothing refused
 counts : (A : Outcome (Unit {0})) (n m : ℕ) → value n ≡ (A >> value m) → (A ≡ value tt) × (n ≡ m)
@@ -32,7 +33,7 @@ refuses (refusal number′ also′) m number also e = cc
 module _ (read : ℕ → Outcome ℕ) (rows : ℕ) (test : ℕ → Bool) (first end last : ℕ) (list : List ℕ) (cut : last ≡ min end rows)
     (a : Found) (e : foundMeaning a ≡ counted read test 0 first (last - first)) where
   -- counting refused, and its refusal is passed on
-  pub passes-on : (x : Refusal) → a ≡ Refused x → LookedUp (lookedUp read rows test first end (length list)) a list list
+  pub passes-on : (x : Refusal) → a ≡ Refused x → FoundAs (lookedUp read rows test first end (length list)) a list list
   unfolding lookedUp
   passes-on x is =
       let stopped = refuses (allRead read first (last - first)) _ _ _ (rw is at e) in
@@ -49,11 +50,11 @@ module _ (read : ℕ → Outcome ℕ) (rows : ℕ) (test : ℕ → Bool) (first 
     pub fits : (room : ℕ) → n ≤ room → length (rowsPassing read test first (last - first)) ≤ room
     fits room h = rw has-found at h
 
-    pub too-short : length list < n → LookedUp (lookedUp read rows test first end (length list)) (Refused (ListShort n)) list list
+    pub too-short : length list < n → FoundAs (lookedUp read rows test first end (length list)) (Refused (ListShort n)) list list
     unfolding lookedUp
     too-short h = rw (← cut, all-read, ← has-found, lt-leb _ _ h) (record { answer = refl; list = refl })
 
     pub found-all : (after : List ℕ) → n ≤ length list → after ≡ sets list 0 (rowsPassing read test first (last - first))
-        → LookedUp (lookedUp read rows test first end (length list)) (Rows n) list after
+        → FoundAs (lookedUp read rows test first end (length list)) (Rows n) list after
     unfolding lookedUp
     found-all after h s = rw (← cut, all-read, ← has-found, le-leb _ _ h) (record { answer = ap value has-found; list = s })

@@ -16,7 +16,7 @@ use Rattle.format.specs.Stats.{readHead}
 use Rattle.format.specs.Opening.{Loaded, Table, readBlocks, openBlockwise, openBody, opened, columnIn, tableIn}
 use Rattle.format.proofs.Openings.{OpensBitpacked, OpensLinear, OpensBlockwise, by-opening}
 use Rattle.blockwise_linear.specs.Reader.{firstCursor, blocksFrom, numbersIn, Fillable}
-use Rattle.u64_based.specs.Opened.{tabled}
+use Rattle.u64_based.specs.Opening.{tabled}
 
 -- ---- the code byte
 

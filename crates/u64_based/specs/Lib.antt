@@ -1,3 +1,4 @@
-pub mod Opened
+pub mod Opening
 pub mod Reading
 pub mod Lookup
+pub mod Calls

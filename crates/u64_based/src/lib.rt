@@ -11,8 +11,7 @@ ghost use Rattle.format.specs.Refusals.{openedMeaning, rowMeaning};
 ghost use Rattle.format.specs.Opening.{columnIn, opened};
 ghost use Rattle.format.specs.Lookup.{lookedUp, within};
 ghost use Rattle.format.specs.Reading.{rowAt};
-ghost use Rattle.u64_based.specs.Opened.{OpenedAs};
-ghost use Rattle.u64_based.specs.Lookup.{LookedUp};
+ghost use Rattle.u64_based.specs.Calls.{OpenedAs, FoundAs};
 use format::Column;
 use format::ColumnRow;
 use format::Found;
@@ -73,7 +72,7 @@ pub fn lookup(
     end: u32,
     found: &mut [u32],
 ) -> Found
-    ensures { λ r. ⌜ LookedUp (lookedUp (rowAt column (now (table .entry)) (now (bytes .entry))) (column .rows) (within low high) first end (length (now (found .entry)))) r (now (found .entry)) (now (found .exit)) ⌝ }
+    ensures { λ r. ⌜ FoundAs (lookedUp (rowAt column (now (table .entry)) (now (bytes .entry))) (column .rows) (within low high) first end (length (now (found .entry)))) r (now (found .entry)) (now (found .exit)) ⌝ }
 {
     let last = finding::cut(end, column.rows);
     let counted = finding::count(column, table, bytes, low, high, first, last);

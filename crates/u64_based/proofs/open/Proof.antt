@@ -9,7 +9,7 @@ use borrow.Author.Needs.{needs}
 use Rattle.format.specs.Outcome.{Outcome, stored}
 use Rattle.format.specs.Opening.{Loaded, columnIn, opened}
 use Rattle.blockwise_linear.specs.Reader.{firstCursor, blocksFrom, numbersIn}
-use Rattle.u64_based.specs.Opened.{tabled}
+use Rattle.u64_based.specs.Opening.{tabled}
 use Rattle.u64_based.proofs.Opens.{opened-tabled}
 use Rattle.u64_based.proofs.open.Statement.{statement}
 use Rattle.u64_based.proofs.open.Tie as tie

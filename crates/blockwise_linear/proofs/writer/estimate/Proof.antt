@@ -4,7 +4,7 @@ use denote.Ref.{now}
 use lib.ListN.{length-map}
 use Rattle.stats.proofs.Described.{sound-of}
 use Rattle.blockwise_linear.specs.Writer.{normal, normals}
-use Rattle.blockwise_linear.proofs.Body.{raw-above, takes-small, estimate-is, estimate-none}
+use Rattle.blockwise_linear.proofs.Body.{raw-above, takes-few, estimate-is, estimate-none}
 use borrow.Author.Needs.{needs}
 use Rattle.blockwise_linear.proofs.writer.estimate.Statement.{statement}
 use Rattle.blockwise_linear.proofs.writer.estimate.Tie as tie
@@ -15,7 +15,7 @@ measure-requires c κs = (raw-above _, c .before .pre .few)
 body-len-requires : tie.Need-body-len-requires
 body-len-requires c κs = let start = c .before .before in
     let vs = now (start .args .values) in
-    (sound-of (start .pre), takes-small (normals 0 1 vs) _ (length-map vs (normal 0 1)) (start .pre .few) (c .measure .ensures))
+    (sound-of (start .pre), takes-few (normals 0 1 vs) _ (length-map vs (normal 0 1)) (start .pre .few) (c .measure .ensures))
 
 saving-of-requires : tie.Need-saving-of-requires
 saving-of-requires c κs = search needs

@@ -6,7 +6,7 @@ use mathlib.Core.Path.{sym}
 use native.Mathlib.Omega.{arith}
 use lib.ListN.{length, take, drop}
 use Rattle.blockwise_linear.specs.Writer.{normal, normals}
-use Rattle.blockwise_linear.proofs.Filling.{Filled, loaded-length, loaded-more, filled-starts, filled-ends}
+use Rattle.blockwise_linear.proofs.Filled.{Filled, loaded-length, loaded-more, filled-starts, filled-ends}
 use borrow.Author.Needs.{needs}
 use Rattle.blockwise_linear.proofs.writer.load.Statement.{statement}
 use Rattle.blockwise_linear.proofs.writer.load.Tie as tie

@@ -7,7 +7,7 @@ use lib.ListN.{length-append}
 use Rattle.format.specs.Bodies.{normalised}
 use Rattle.stats.proofs.Described.{sound-of, steps-length}
 use Rattle.blockwise_linear.specs.Writer.{areas, entries}
-use Rattle.blockwise_linear.proofs.Body.{above-of, takes-small, body-length, wrote-body}
+use Rattle.blockwise_linear.proofs.Body.{above-of, takes-few, body-length, wrote-body}
 use borrow.Author.Needs.{needs}
 use Rattle.blockwise_linear.proofs.writer.serialize.Statement.{statement}
 use Rattle.blockwise_linear.proofs.writer.serialize.Tie as tie
@@ -29,7 +29,7 @@ write-blocks-requires c κs = let headed = c .before .before .before .before in
 
 cast-put-four : tie.Need-cast-put-four
 cast-put-four c = let start = c .before .before .before .before .before .before .before .before .before .before .before .before .before in
-    omega (arith, takes-small (map (normalised (start .args .stats)) (now (start .args .values))) _ (steps-length (start .pre .0)) (start .pre .0 .few) (start .pre .1 .0) .fields)
+    omega (arith, takes-few (map (normalised (start .args .stats)) (now (start .args .values))) _ (steps-length (start .pre .0)) (start .pre .0 .few) (start .pre .1 .0) .fields)
 
 put-four-requires : tie.Need-put-four-requires
 put-four-requires c κs = let put = c .before .before .before .before in

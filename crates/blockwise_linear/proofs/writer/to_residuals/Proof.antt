@@ -6,7 +6,7 @@ use native.Mathlib.Omega.{arith}
 use lib.ListN.{length}
 use Rattle.format.specs.Line.{residuals}
 use Rattle.format.proofs.Lines.{residuals-length}
-use Rattle.blockwise_linear.proofs.Filling.{Filled, filled-starts, filled-ends, residual-stored}
+use Rattle.blockwise_linear.proofs.Filled.{Filled, filled-starts, filled-ends, residual-stored}
 use borrow.Author.Needs.{needs}
 use Rattle.blockwise_linear.proofs.writer.to_residuals.Statement.{statement}
 use Rattle.blockwise_linear.proofs.writer.to_residuals.Tie as tie

@@ -1,0 +1,159 @@
+-- The demands, of the calls' own answers: from the contracts of `serialize`, `open`, `row` and `lookup`, and the theorems of `format`.
+--     Opens, opens                       what an answer of `open` that is a column comes from
+--     own-rows                           an opened column answers its own rows with a value or 14: never 12, never 13
+--     Returned, calls-return             demand 2: what was written opens, and `row` and `lookup` give the values back
+--     Told, calls-tell                   demand 3: what `row` answers depends on its row's own bits, and tells every change of them
+-- Assumes nothing.
+use Prim.Native.Nat.{ℕ, _+_, _*_, _/_, _^_, _≤_, _<_}
+use mathlib.Core.Path.{_≡_, refl, sym, ap, _∙_, subst}
+use mathlib.Core.Logic.{_⊎_, inl, inr, ⊎-elim}
+use mathlib.Core.List.{List, [], _∷_}
+use native.Mathlib.Omega.{arith}
+use lib.ListN.{length, take, drop, getD}
+use lib.Seq.{sets, sets-eq, take-at}
+use Rattle.format.specs.declared.Column.{Column}
+use Rattle.format.specs.declared.Found.{Found}
+use Rattle.format.specs.declared.Opened.{Opened}
+use Rattle.format.specs.declared.Opened.the-variants.{Column as OpenedColumn}
+use Rattle.format.specs.declared.Refusal.the-variants.{OutOfBounds}
+use Rattle.format.specs.declared.RowRead.{RowRead}
+use Rattle.format.specs.declared.RowRead.the-variants.{Value, Refused as NotRead}
+use Rattle.format.specs.declared.Written.the-variants.{Length}
+use Rattle.format.specs.Outcome.{Outcome, Outcome.value, Outcome.refusal}
+use Rattle.format.specs.Word.{AllBelow}
+use Rattle.format.specs.Refusals.{rowMeaning}
+use Rattle.format.specs.Bodies.{blockCount}
+use Rattle.format.specs.Writing.{written}
+use Rattle.format.specs.Opening.{Loaded, opened}
+use Rattle.format.specs.Reading.{rowAt}
+use Rattle.format.specs.Lookup.{lookedUp, within}
+use Rattle.format.specs.Demands.{filledBy, answered, readsAs, GivesBack, Alike, SameBits, Differ, RowsTell}
+use Rattle.format.proofs.Answers.{row-injective, opened-injective}
+use Rattle.format.proofs.Rows.{own-row}
+use Rattle.format.proofs.Writes.{written-as}
+use Rattle.format.proofs.Demand2.{demand2}
+use Rattle.format.proofs.Demand3.{demand3}
+use Rattle.u64_based.specs.Calls.{OpenedAs, FoundAs, SerializedAs}
+
+-- ---- opening
+
+-- an answer of `open` that is a column: what opening found, whose column it is and whose blocks the lent table holds afterwards
+pub record Opens (s table after : List ℕ) (c : Column) (o : Loaded) : Type 0 where
+  pub found : opened s (length table / 4) ≡ value o
+  pub column : o .column ≡ c
+  pub filled : after ≡ filledBy o table
+
+opens-of : (x : Outcome Loaded) (table after : List ℕ) (c : Column) → OpenedAs x (OpenedColumn c) table after
+    → (o : Loaded) × (x ≡ value o) × (o .column ≡ c) × (after ≡ filledBy o table)
+opens-of (value o) table after c r =
+    let e : value c ≡ value (o .column) = r .answer in
+    (o, refl, (cc), r .table)
+opens-of (refusal number also) table after c r =
+    let e : _≡_ {A = Outcome Column} (value c) (refusal number also) = r .answer in
+    let z : _≡_ {A = ℕ} 0 1 = cc in
+    absurd (omega arith)
+
+pub opens : (s table after : List ℕ) (c : Column) → OpenedAs (opened s (length table / 4)) (OpenedColumn c) table after → (o : Loaded) × Opens s table after c o
+opens s table after c r =
+    let o = opens-of (opened s (length table / 4)) table after c r in
+    (o .0, record { found = o .1; column = o .2; filled = o .3 })
+
+-- reading with what the call left is the demands' reading
+reads : {s table after : List ℕ} {c : Column} {o : Loaded} → Opens s table after c o → (r : ℕ) → rowAt c after s r ≡ answered o table s r
+reads {s} {table} {after} {c} {o} e r = rw (e .filled, ← (e .column))
+
+-- the rows of an opened column answer a value or 14
+pub own-rows : (s table after : List ℕ) (c : Column) → OpenedAs (opened s (length table / 4)) (OpenedColumn c) table after
+    → (r : ℕ) → r < c .rows → (a : RowRead) → rowMeaning a ≡ rowAt c after s r → ((v : ℕ) × (rowMeaning a ≡ value v)) ⊎ (a ≡ NotRead (OutOfBounds r))
+own-rows s table after c opened-as r h a e =
+    let o = opens s table after c opened-as in
+    let known : r < o .0 .column .rows = rw (o .1 .column) h in
+    ⊎-elim
+    (λ v. inl (v .0, e ∙ reads (o .1) r ∙ v .1))
+    (λ f. inr (row-injective a (NotRead (OutOfBounds r)) (e ∙ reads (o .1) r ∙ f)))
+    (own-row s table (o .0) (o .1 .found) r known)
+
+-- ---- demand 2
+
+-- what an answer of `serialize` that is a length comes from: a column, which now stands at the output's front
+written-of : (x : Outcome (List ℕ)) (before after : List ℕ) (n : ℕ) → SerializedAs x (Length n) before after
+    → (bytes : List ℕ) × (x ≡ value bytes) × (n ≡ length bytes) × (after ≡ sets before 0 bytes)
+written-of (value bytes) before after n r =
+    let e : value n ≡ value (length bytes) = r .answer in
+    (bytes, refl, (cc), r .list)
+written-of (refusal number also) before after n r =
+    let e : _≡_ {A = Outcome ℕ} (value n) (refusal number also) = r .answer in
+    let z : _≡_ {A = ℕ} 0 1 = cc in
+    absurd (omega arith)
+
+-- what the calls give back of a list, from bytes that were opened: a column of as many rows, each value, and what a lookup in the list finds
+pub record Returned (vs s after : List ℕ) (a : Opened) : Type 0 where
+  pub column : Column
+  pub opens-to : a ≡ OpenedColumn column
+  pub count : column .rows ≡ length vs
+  pub rows : (r : ℕ) → r < length vs → (b : RowRead) → rowMeaning b ≡ rowAt column after s r → b ≡ Value (getD vs r 0)
+  pub found : (low high first end : ℕ) (before list : List ℕ) (f : Found)
+      → FoundAs (lookedUp (rowAt column after s) (column .rows) (within low high) first end (length before)) f before list
+      → FoundAs (lookedUp (readsAs vs) (length vs) (within low high) first end (length before)) f before list
+
+-- a written column that is opened
+returned : (vs cs bytes table after : List ℕ) (room : ℕ) → AllBelow (2 ^ 64) vs → written vs cs room ≡ value bytes → 4 * blockCount (length vs) ≤ length table
+    → (a : Opened) → OpenedAs (opened bytes (length table / 4)) a table after → Returned vs bytes after a
+returned vs cs bytes table after room each e enough a opened-as =
+    let g = demand2 .0 vs cs bytes table room each e enough in
+    let o : Loaded = g .0 in
+    let back : GivesBack vs bytes table o = g .2 in
+    let left : after ≡ filledBy o table = opened-as .table ∙ rw (g .1) in
+    record {
+      column = o .column;
+      opens-to = opened-injective a (OpenedColumn (o .column)) (opened-as .answer ∙ rw (g .1));
+      count = back .count;
+      rows = λ (r : ℕ) (h : r < length vs) (b : RowRead) (f : rowMeaning b ≡ rowAt (o .column) after bytes r).
+          row-injective b (Value (getD vs r 0)) (f ∙ rw left (back .rows r h));
+      found = λ (low high first end : ℕ) (before list : List ℕ) (f : Found).
+          subst (λ (x : Outcome (List ℕ)). FoundAs x f before list)
+          (rw left (back .found low high first end (length before)));
+    }
+
+-- a column at an output's front
+front-of : (out after bytes : List ℕ) (n : ℕ) → n ≡ length bytes → after ≡ sets out 0 bytes → length bytes ≤ length out → take n after ≡ bytes
+front-of out after bytes n e f h = rw (e, f, sets-eq bytes out 0 (omega arith)) (take-at bytes (drop (0 + length bytes) out) (length bytes) refl)
+
+-- demand 2, of the calls: what `serialize` wrote, opened with any table that has room, gives back the list
+pub calls-return : (vs cs out written-out : List ℕ) (n : ℕ) → AllBelow (2 ^ 64) vs → SerializedAs (written vs cs (length out)) (Length n) out written-out
+    → (table after : List ℕ) → 4 * blockCount (length vs) ≤ length table
+    → (a : Opened) → OpenedAs (opened (take n written-out) (length table / 4)) a table after → Returned vs (take n written-out) after a
+calls-return vs cs out written-out n each wrote table after enough a opened-as =
+    let w = written-of (written vs cs (length out)) out written-out n wrote in
+    let front : take n written-out ≡ w .0 = front-of out written-out (w .0) n (w .2) (w .3) (written-as vs cs (w .0) (length out) (w .1) .fits) in
+    subst (λ (s : List ℕ). OpenedAs (opened s (length table / 4)) a table after → Returned vs s after a) (sym front)
+    (returned vs cs (w .0) table after (length out) each (w .1) enough a) opened-as
+
+-- ---- demand 3
+
+-- two byte strings that differ only inside the packed area, each opened by a call: one column, and answers that go by the row's own bits
+pub record Told (s t after other-after : List ℕ) (c d : Column) (o : Loaded) : Type 0 where
+  pub same : c ≡ d
+  pub agree : (r : ℕ) → r < c .rows → SameBits o s t r → (a b : RowRead) → rowMeaning a ≡ rowAt c after s r → rowMeaning b ≡ rowAt d other-after t r → a ≡ b
+  pub differ : (r : ℕ) → r < c .rows → (SameBits o s t r → ⊥) → (a b : RowRead) → rowMeaning a ≡ rowAt c after s r → rowMeaning b ≡ rowAt d other-after t r
+      → (a ≡ b → ⊥) ⊎ ((a ≡ NotRead (OutOfBounds r)) × (b ≡ NotRead (OutOfBounds r)))
+
+-- answers that differ on paper differ
+differ-too : (r : ℕ) (a b : RowRead) (x y : Outcome ℕ) → rowMeaning a ≡ x → rowMeaning b ≡ y → Differ r x y
+    → (a ≡ b → ⊥) ⊎ ((a ≡ NotRead (OutOfBounds r)) × (b ≡ NotRead (OutOfBounds r)))
+differ-too r a b x y e f (inl apart) = inl (λ (same : a ≡ b). apart (sym e ∙ ap rowMeaning same ∙ f))
+differ-too r a b x y e f (inr both) =
+    inr (row-injective a (NotRead (OutOfBounds r)) (e ∙ both .0), row-injective b (NotRead (OutOfBounds r)) (f ∙ both .1))
+
+-- demand 3, of the calls
+pub calls-tell : (s t table other after other-after : List ℕ) (c d : Column) (o p : Loaded) → Opens s table after c o → Opens t other other-after d p → Alike s t o
+    → Told s t after other-after c d o
+calls-tell s t table other after other-after c d o p e f alike =
+    let told : RowsTell s t table other o p = demand3 .2 s t table other o p (e .found) (f .found) alike in
+    record {
+      same = sym (e .column) ∙ ap (λ (x : Loaded). x .column) (told .same) ∙ f .column;
+      agree = λ (r : ℕ) (h : r < c .rows) (bits : SameBits o s t r) (a b : RowRead) (x : rowMeaning a ≡ rowAt c after s r) (y : rowMeaning b ≡ rowAt d other-after t r).
+          row-injective a b (x ∙ reads e r ∙ told .agree r (rw (e .column) h) bits ∙ sym (y ∙ reads f r));
+      differ = λ (r : ℕ) (h : r < c .rows) (bits : SameBits o s t r → ⊥) (a b : RowRead) (x : rowMeaning a ≡ rowAt c after s r) (y : rowMeaning b ≡ rowAt d other-after t r).
+          differ-too r a b (answered o table s r) (answered p other t r) (x ∙ reads e r) (y ∙ reads f r) (told .differ r (rw (e .column) h) bits);
+    }
