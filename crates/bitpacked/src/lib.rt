@@ -1,2 +1,3 @@
 // Bitpacked: the distance of each value from the minimum, in steps of the gcd, packed at one width.
 pub mod reader;
+pub mod writer;

@@ -1,2 +1,3 @@
 // Linear: one line trained on the first values, each value's residual over it packed at one width.
 pub mod reader;
+pub mod writer;

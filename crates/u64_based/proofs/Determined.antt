@@ -1,5 +1,5 @@
 -- The contracts of the entry points determine what they answer and what every lent entry holds afterwards: two results that they allow coincide.
---     open-plain-determined, open-determined, row-determined, lookup-determined
+--     stats-determined, serialize-determined, open-plain-determined, open-determined, row-determined, lookup-determined
 -- Assumes nothing.
 use Prim.Native.Nat.{ℕ, _/_}
 use mathlib.Core.Path.{_≡_, sym, _∙_}
@@ -9,12 +9,25 @@ use Rattle.format.specs.declared.Column.{Column}
 use Rattle.format.specs.declared.Found.{Found}
 use Rattle.format.specs.declared.Opened.{Opened}
 use Rattle.format.specs.declared.RowRead.{RowRead}
+use Rattle.format.specs.declared.Stated.{Stated}
+use Rattle.format.specs.declared.Written.{Written}
 use Rattle.format.specs.Lookup.{lookedUp, within}
 use Rattle.format.specs.Opening.{opened, columnIn}
 use Rattle.format.specs.Reading.{rowAt}
-use Rattle.format.specs.Refusals.{openedMeaning, rowMeaning}
-use Rattle.format.proofs.Answers.{opened-injective, row-injective, found-injective}
-use Rattle.u64_based.specs.Calls.{OpenedAs, FoundAs}
+use Rattle.format.specs.Refusals.{statedMeaning, openedMeaning, rowMeaning}
+use Rattle.format.specs.Stats.{stated}
+use Rattle.format.specs.Writing.{written}
+use Rattle.format.proofs.Answers.{stated-injective, written-injective, opened-injective, row-injective, found-injective}
+use Rattle.u64_based.specs.Calls.{SerializedAs, OpenedAs, FoundAs}
+
+-- two answers of `column_stats`
+pub stats-determined : (values : List ℕ) (a b : Stated) → statedMeaning a ≡ stated values → statedMeaning b ≡ stated values → a ≡ b
+stats-determined values a b p q = stated-injective a b (p ∙ sym q)
+
+-- two answers of `serialize`, and what the lent output holds afterwards
+pub serialize-determined : (values codecs out : List ℕ) (a b : Written) (after after′ : List ℕ)
+    → SerializedAs (written values codecs (length out)) a out after → SerializedAs (written values codecs (length out)) b out after′ → (a ≡ b) × (after ≡ after′)
+serialize-determined values codecs out a b after after′ p q = (written-injective a b (p .answer ∙ sym (q .answer)), p .list ∙ sym (q .list))
 
 -- two answers of `open_plain`
 pub open-plain-determined : (s : List ℕ) (room : ℕ) (a b : Opened) → openedMeaning a ≡ columnIn (opened s room) → openedMeaning b ≡ columnIn (opened s room) → a ≡ b

@@ -1,5 +1,9 @@
 -- Laws of the entry points; the head of each file lists what it offers.
 
+-- choosing and writing
+pub mod Choosing
+pub mod Sizes
+pub mod Serializing
 -- opening
 pub mod Opens
 -- reading a row
@@ -12,3 +16,4 @@ pub mod Looking
 -- what the contracts come to
 pub mod Determined
 pub mod Calls
+pub mod Cases

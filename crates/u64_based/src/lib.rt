@@ -1,24 +1,59 @@
 // A column of numbers of 64 bits: the entry points. No argument makes a call fail but by a numbered refusal, and each contract
 // says what a call answers and what every lent entry holds afterwards.
+pub mod choice;
 pub mod finding;
 pub mod opening;
 pub mod reader;
+pub mod writer;
 
 ghost use mathlib.Core.Path.{_≡_};
 ghost use Prim.Native.Nat.{_/_};
 ghost use lib.ListN.{length};
-ghost use Rattle.format.specs.Refusals.{openedMeaning, rowMeaning};
+ghost use Rattle.format.specs.Refusals.{statedMeaning, openedMeaning, rowMeaning};
+ghost use Rattle.format.specs.Stats.{stated};
+ghost use Rattle.format.specs.Writing.{written};
 ghost use Rattle.format.specs.Opening.{columnIn, opened};
 ghost use Rattle.format.specs.Lookup.{lookedUp, within};
 ghost use Rattle.format.specs.Reading.{rowAt};
-ghost use Rattle.u64_based.specs.Calls.{OpenedAs, FoundAs};
+ghost use Rattle.u64_based.specs.Calls.{SerializedAs, OpenedAs, FoundAs};
+use choice::Best;
+use choice::Place;
 use format::Column;
 use format::ColumnRow;
 use format::Found;
 use format::Opened;
 use format::Refusal;
 use format::RowRead;
+use format::Stated;
+use format::Written;
 use stats::HeadRead;
+
+// The statistics of some values.
+pub fn column_stats(values: &[u64]) -> Stated
+    ensures { λ r. ⌜ statedMeaning r ≡ stated (now (values .entry)) ⌝ }
+{
+    if 0xffff_ffff < values.len() {
+        return Stated::Refused(Refusal::TooManyValues);
+    }
+    Stated::Stats(stats::collect(values))
+}
+
+// Writes the values by the listed codec that takes least.
+pub fn serialize(values: &[u64], codecs: &[u8], out: &mut [u8]) -> Written
+    ensures { λ r. ⌜ SerializedAs (written (now (values .entry)) (now (codecs .entry)) (length (now (out .entry)))) r (now (out .entry)) (now (out .exit)) ⌝ }
+{
+    if 0xffff_ffff < values.len() {
+        return Written::Refused(Refusal::TooManyValues);
+    }
+    if let Place::At(place) = choice::unknown(codecs) {
+        return Written::Refused(Refusal::UnknownCodec { place });
+    }
+    let stats = stats::collect(values);
+    match choice::choose(values, stats, codecs) {
+        Best::Nothing => Written::Refused(Refusal::NoCodecApplies),
+        Best::Least { codec, size: _ } => writer::put(values, stats, codec, out),
+    }
+}
 
 // Opens a column, for a table with room for so many blocks. All of opening's decisions fall here, on the bytes and the room
 // alone; the table itself is not needed for them.

@@ -1,0 +1,94 @@
+-- `bitpacked::writer::pack_normalised` meets its contract. The loop's invariant: the packer has packed the values passed, normalised.
+-- Assumes nothing.
+use Prim.Native.Nat.{_-_, _/_}
+use mathlib.Core.Path.{sym, _∙_}
+use mathlib.Core.List.{map}
+use native.Mathlib.Omega.{arith}
+use denote.Ref.{now}
+use Rattle.format.specs.Bodies.{normalised}
+use Rattle.format.proofs.Lists.{map-at}
+use Rattle.bitpacker.specs.Packer.{Packing}
+use Rattle.bitpacker.proofs.PackerLaws.{packing-starts, packing-writable, packing-more, packing-closable, packing-ends}
+use Rattle.stats.proofs.Described.{sound-of, value-above, steps-length}
+use borrow.Author.Needs.{needs}
+use Rattle.bitpacked.proofs.writer.pack_normalised.Statement.{statement}
+use Rattle.bitpacked.proofs.writer.pack_normalised.Tie as tie
+
+abbrev Inv-loop : tie.InvT-loop
+Inv-loop values bits out₀ minimum gcd rows packer₀ i₀ out packer i = Packing bits (map (λ v. (v - minimum) / gcd) values) out₀ i packer out
+
+abbrev μ-loop : tie.MeasureT-loop
+μ-loop values bits out₀ minimum gcd rows packer₀ i₀ out packer i = rows - i
+
+new-requires : tie.Need-new-requires Inv-loop μ-loop
+new-requires c κs = search needs
+
+loop-holds : tie.Need-loop-holds Inv-loop μ-loop
+loop-holds c = let a = c .before .before .before .args in
+    packing-starts (a .bits) (map (normalised (a .stats)) (now (a .values))) (c .new .ensures (now (a .out)))
+
+mul-v : tie.Need-mul-v Inv-loop μ-loop
+mul-v c = search needs
+
+shared-slice-read-v : tie.Need-shared-slice-read-v Inv-loop μ-loop
+shared-slice-read-v c = search needs
+
+sub-write : tie.Need-sub-write Inv-loop μ-loop
+sub-write c = let at-loop = c .before .before .before in
+    value-above (at-loop .before .before .before .before .pre .0) (at-loop .loop .i) (omega arith)
+
+div-write : tie.Need-div-write Inv-loop μ-loop
+div-write c = sound-of (c .before .before .before .before .before .before .before .pre .0) .some
+
+write-requires : tie.Need-write-requires Inv-loop μ-loop
+write-requires c κs = let at-loop = c .before .before .before in
+    let start = at-loop .before .before .before .before in
+    let described = start .pre .0 in
+    packing-writable (start .pre .1) (steps-length described) (at-loop .loop .inv) (omega arith)
+    (sym (map-at (normalised (start .args .stats)) (now (start .args .values)) (at-loop .loop .i) (omega arith)))
+
+add-i : tie.Need-add-i Inv-loop μ-loop
+add-i c = search needs
+
+loop-less : tie.Need-loop-less Inv-loop μ-loop
+loop-less c = search needs
+
+loop-again : tie.Need-loop-again Inv-loop μ-loop
+loop-again c = let at-loop = c .before .before .before .before .before .before in
+    let start = at-loop .before .before .before .before in
+    packing-more (start .pre .1) (steps-length (start .pre .0)) (at-loop .loop .inv) (omega arith)
+    (sym (map-at (normalised (start .args .stats)) (now (start .args .values)) (at-loop .loop .i) (omega arith)))
+    (c .before .before .write .ensures) (c .before .before .write .kept .1 .0)
+
+close-requires : tie.Need-close-requires Inv-loop μ-loop
+close-requires c κs = let at-loop = c .before .before in
+    let start = at-loop .before .before .before .before in
+    packing-closable (start .pre .1) (steps-length (start .pre .0)) (at-loop .loop .inv) (omega arith)
+
+same-length : tie.Need-same-length Inv-loop μ-loop
+same-length c = c .before .before .close .kept .1 .0 ∙ c .before .before .before .before .before .loop .inv .kept
+
+returns : tie.Need-returns Inv-loop μ-loop
+returns c = let at-loop = c .before .before .before .before .before in
+    let start = at-loop .before .before .before .before in
+    packing-ends (start .pre .1) (steps-length (start .pre .0)) (at-loop .loop .inv) (omega arith) (c .before .before .close .ensures)
+
+pub pack-normalised-spec : {M : Type 1} → statement M
+pack-normalised-spec =
+    tie.close
+    (tie.spec
+    Inv-loop
+    μ-loop
+    new-requires
+    loop-holds
+    mul-v
+    shared-slice-read-v
+    sub-write
+    div-write
+    write-requires
+    add-i
+    loop-less
+    loop-again
+    close-requires
+    same-length
+    returns)

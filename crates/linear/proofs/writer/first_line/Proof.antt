@@ -1,0 +1,69 @@
+-- `linear::writer::first_line` meets its contract. The loop's invariant: the buffer holds the values passed.
+-- Assumes nothing.
+use Prim.Native.Nat.{_-_}
+use mathlib.Core.Path.{refl, sym, ap, _∙_}
+use denote.Ref.{now}
+use Rattle.format.specs.Line.{trained}
+use Rattle.linear.proofs.Deviations.{Copying, copying-starts, copying-next, copying-ends}
+use borrow.Author.Needs.{needs}
+use Rattle.linear.proofs.writer.first_line.Statement.{statement}
+use Rattle.linear.proofs.writer.first_line.Tie as tie
+
+abbrev Inv-loop : tie.InvT-loop
+Inv-loop values first₀ i₀ first i = Copying values i first
+
+abbrev μ-loop : tie.MeasureT-loop
+μ-loop values first₀ i₀ first i = 512 - i
+
+loop-holds : tie.Need-loop-holds Inv-loop μ-loop
+loop-holds c = copying-starts (now (c .before .args .values)) _ refl
+
+mul-v : tie.Need-mul-v Inv-loop μ-loop
+mul-v c = search needs
+
+shared-slice-read-v : tie.Need-shared-slice-read-v Inv-loop μ-loop
+shared-slice-read-v c = search needs
+
+mul-first : tie.Need-mul-first Inv-loop μ-loop
+mul-first c = search needs
+
+array-write-first : tie.Need-array-write-first Inv-loop μ-loop
+array-write-first c = search needs
+
+add-i : tie.Need-add-i Inv-loop μ-loop
+add-i c = search needs
+
+loop-less : tie.Need-loop-less Inv-loop μ-loop
+loop-less c = search needs
+
+loop-again : tie.Need-loop-again Inv-loop μ-loop
+loop-again c = let at-loop = c .before .before in
+    copying-next (at-loop .before .before .pre) (at-loop .loop .inv) (search needs)
+
+slice-aggregate-train : tie.Need-slice-aggregate-train Inv-loop μ-loop
+slice-aggregate-train c = sym (c .before .before .loop .inv .size)
+
+train-requires : tie.Need-train-requires Inv-loop μ-loop
+train-requires c κs = search needs
+
+returns : tie.Need-returns Inv-loop μ-loop
+returns c = let at-loop = c .before .before .before in
+    c .train .ensures ∙ ap trained (copying-ends (at-loop .before .before .pre) (at-loop .loop .inv) (search needs))
+
+pub first-line-spec : {M : Type 1} → statement M
+first-line-spec =
+    tie.close
+    (tie.spec
+    Inv-loop
+    μ-loop
+    loop-holds
+    mul-v
+    shared-slice-read-v
+    mul-first
+    array-write-first
+    add-i
+    loop-less
+    loop-again
+    slice-aggregate-train
+    train-requires
+    returns)

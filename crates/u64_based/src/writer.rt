@@ -1,0 +1,70 @@
+// Writing the column of a codec: whether it has room, the code byte, and the body behind it.
+ghost use mathlib.Core.Path.{_≡_};
+ghost use mathlib.Core.List.{_∷_};
+ghost use lib.ListN.{length};
+ghost use Rattle.format.specs.Bodies.{bitpacked, linear, blockwise, columnBy};
+ghost use Rattle.format.specs.Listing.{codeOf};
+ghost use Rattle.stats.specs.Asked.{Describes};
+ghost use Rattle.linear.specs.Writer.{Fits};
+ghost use Rattle.u64_based.specs.Choice.{AptCodec};
+ghost use Rattle.u64_based.specs.Writing.{lent};
+ghost use Rattle.u64_based.specs.Calls.{SerializedAs};
+use format::Codec;
+use format::ColumnStats;
+use format::Refusal;
+use format::Written;
+use linear::writer::Fit;
+
+// A Bitpacked column, where there is room for it.
+fn put_bitpacked(values: &[u64], stats: ColumnStats, out: &mut [u8]) -> Written
+    requires { ⌜ Describes stats (now values) ⌝ }
+    ensures { λ r. ⌜ SerializedAs (lent (0 ∷ bitpacked stats (now (values .entry))) (length (now (out .entry)))) r (now (out .entry)) (now (out .exit)) ⌝ }
+{
+    let needed = 1 + bitpacked::writer::estimate(stats);
+    if out.len() < needed {
+        return Written::Refused(Refusal::OutputShort { needed });
+    }
+    out[0] = 0;
+    Written::Length(bitpacked::writer::serialize(values, stats, out, 1))
+}
+
+// A Linear column, where there is room for it.
+fn put_linear(values: &[u64], stats: ColumnStats, fit: Fit, out: &mut [u8]) -> Written
+    requires { ⌜ Describes stats (now values) ⌝ }
+    requires { ⌜ Fits (now values) fit ⌝ }
+    ensures { λ r. ⌜ SerializedAs (lent (1 ∷ linear stats (now (values .entry))) (length (now (out .entry)))) r (now (out .entry)) (now (out .exit)) ⌝ }
+{
+    let needed = 1 + linear::writer::estimate(stats, fit);
+    if out.len() < needed {
+        return Written::Refused(Refusal::OutputShort { needed });
+    }
+    out[0] = 1;
+    Written::Length(linear::writer::serialize(values, stats, fit, out, 1))
+}
+
+// A Blockwise column, where there is room for it.
+fn put_blockwise(values: &[u64], stats: ColumnStats, out: &mut [u8]) -> Written
+    requires { ⌜ Describes stats (now values) ⌝ }
+    ensures { λ r. ⌜ SerializedAs (lent (2 ∷ blockwise stats (now (values .entry))) (length (now (out .entry)))) r (now (out .entry)) (now (out .exit)) ⌝ }
+{
+    let sizes = blockwise_linear::writer::measure(values, stats.minimum, stats.gcd);
+    let needed = 1 + blockwise_linear::writer::body_len(stats, sizes);
+    if out.len() < needed {
+        return Written::Refused(Refusal::OutputShort { needed });
+    }
+    out[0] = 2;
+    Written::Length(blockwise_linear::writer::serialize(values, stats, sizes, out, 1))
+}
+
+// The column of a chosen codec, where there is room for it.
+pub fn put(values: &[u64], stats: ColumnStats, codec: Codec, out: &mut [u8]) -> Written
+    requires { ⌜ Describes stats (now values) ⌝ }
+    requires { ⌜ AptCodec (now values) codec ⌝ }
+    ensures { λ r. ⌜ SerializedAs (lent (columnBy (codeOf codec) (now (values .entry))) (length (now (out .entry)))) r (now (out .entry)) (now (out .exit)) ⌝ }
+{
+    match codec {
+        Codec::Bitpacked => put_bitpacked(values, stats, out),
+        Codec::Linear(line, bits) => put_linear(values, stats, Fit { line, bits }, out),
+        Codec::Blockwise => put_blockwise(values, stats, out),
+    }
+}
