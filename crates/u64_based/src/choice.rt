@@ -13,13 +13,13 @@ use format::Codec;
 use format::ColumnStats;
 
 // A place in the list.
-pub enum Place {
+pub(crate) enum Place {
     At(usize),
     Nowhere,
 }
 
 // The best codec of some, with its size. Linear comes with the line and the width that it was sized by.
-pub enum Best {
+pub(crate) enum Best {
     Nothing,
     Least { codec: Codec, size: u64 },
 }
@@ -38,7 +38,7 @@ struct Walk {
 }
 
 // The first place of a byte that names no codec.
-pub fn unknown(codecs: &[u8]) -> Place
+pub(crate) fn unknown(codecs: &[u8]) -> Place
     ensures { λ r. ⌜ placeMeaning r ≡ known 0 (now (codecs .entry)) ⌝ }
 {
     let mut i = 0;
@@ -164,7 +164,7 @@ fn advance(values: &[u64], stats: ColumnStats, walk: Walk, code: u8) -> Walk
 }
 
 // Internal: asks for the values' own statistics, and that each byte of the list names a codec. The listed codec that takes least.
-pub fn choose(values: &[u64], stats: ColumnStats, codecs: &[u8]) -> Best
+pub(crate) fn choose(values: &[u64], stats: ColumnStats, codecs: &[u8]) -> Best
     requires { ⌜ Describes stats (now values) ⌝ }
     requires { ⌜ known 0 (now codecs) ≡ value tt ⌝ }
     ensures { λ r. ⌜ Stands (now (values .entry)) (chosen (λ c. sizeOf c stats (now (values .entry))) (now (codecs .entry))) r ⌝ }

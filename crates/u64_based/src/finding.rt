@@ -13,7 +13,7 @@ use format::Found;
 use format::RowRead;
 
 // The end row, cut to so many rows.
-pub fn cut(end: u32, rows: u32) -> u32
+pub(crate) fn cut(end: u32, rows: u32) -> u32
     ensures { λ r. ⌜ r ≡ min end rows ⌝ }
 {
     if end < rows { end } else { rows }
@@ -30,7 +30,7 @@ fn within(low: u64, high: u64, value: u64) -> bool
 }
 
 // How many rows lie in the range, or the refusal of the first refused row, whatever the range.
-pub fn count(
+pub(crate) fn count(
     column: Column,
     table: &[u64],
     bytes: &[u8],
@@ -68,7 +68,7 @@ fn lies(read: RowRead, low: u64, high: u64) -> bool
 }
 
 // Internal: asks for room for the rows that lie in the range. Stores them in the first entries of the list.
-pub fn fill(
+pub(crate) fn fill(
     column: Column,
     table: &[u64],
     bytes: &[u8],

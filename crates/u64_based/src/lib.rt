@@ -1,10 +1,10 @@
 // A column of numbers of 64 bits: the entry points. No argument makes a call fail but by a numbered refusal, and each contract
 // says what a call answers and what every lent entry holds afterwards.
-pub mod choice;
-pub mod finding;
-pub mod opening;
-pub mod reader;
-pub mod writer;
+mod choice;
+mod finding;
+mod opening;
+mod reader;
+mod writer;
 
 ghost use mathlib.Core.Path.{_≡_};
 ghost use Prim.Native.Nat.{_/_};

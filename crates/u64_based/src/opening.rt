@@ -8,7 +8,7 @@ use format::Head;
 use format::Opened;
 
 // The body of a codec, by its number.
-pub fn load(code: u8, bytes: &[u8], head: Head, room: usize) -> Opened
+pub(crate) fn load(code: u8, bytes: &[u8], head: Head, room: usize) -> Opened
     ensures { λ r. ⌜ openedMeaning r ≡ columnIn (openBody code (now (bytes .entry)) head room) ⌝ }
 {
     match code {
@@ -19,7 +19,7 @@ pub fn load(code: u8, bytes: &[u8], head: Head, room: usize) -> Opened
 }
 
 // The rows whose blocks go to the table: those of a Blockwise column.
-pub fn table_rows(opened: Opened) -> u32
+pub(crate) fn table_rows(opened: Opened) -> u32
     ensures { λ r. ⌜ r ≡ tabled (openedMeaning opened) ⌝ }
 {
     match opened {

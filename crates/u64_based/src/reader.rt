@@ -15,7 +15,7 @@ use format::Refusal;
 use format::RowRead;
 
 // Where a row's number stands: number `row`, of `bits` bits, of a run that starts at byte `start` of the area.
-pub struct Place {
+pub(crate) struct Place {
     pub start: u64,
     pub row: u32,
     pub bits: u64,
@@ -109,7 +109,13 @@ fn fits(column: Column, blocks: usize, block: Block, bytes: &[u8], row: ColumnRo
 
 // A row of the column, with its block out of a table of so many: whether there is such a row, whether column, table and bytes fit
 // together there, and its value.
-pub fn row_in(column: Column, blocks: usize, block: Block, bytes: &[u8], row: ColumnRow) -> RowRead
+pub(crate) fn row_in(
+    column: Column,
+    blocks: usize,
+    block: Block,
+    bytes: &[u8],
+    row: ColumnRow,
+) -> RowRead
     ensures { λ r. ⌜ rowMeaning r ≡ rowIn column blocks block (now (bytes .entry)) (row .0) ⌝ }
 {
     if column.rows <= row.0 {

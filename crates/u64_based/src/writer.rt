@@ -57,7 +57,7 @@ fn put_blockwise(values: &[u64], stats: ColumnStats, out: &mut [u8]) -> Written
 }
 
 // The column of a chosen codec, where there is room for it.
-pub fn put(values: &[u64], stats: ColumnStats, codec: Codec, out: &mut [u8]) -> Written
+pub(crate) fn put(values: &[u64], stats: ColumnStats, codec: Codec, out: &mut [u8]) -> Written
     requires { ⌜ Describes stats (now values) ⌝ }
     requires { ⌜ AptCodec (now values) codec ⌝ }
     ensures { λ r. ⌜ SerializedAs (lent (columnBy (codeOf codec) (now (values .entry))) (length (now (out .entry)))) r (now (out .entry)) (now (out .exit)) ⌝ }
