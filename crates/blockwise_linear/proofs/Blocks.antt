@@ -1,11 +1,11 @@
 -- A list's blocks one by one, and how much a block and all blocks take.
 --     part-map                                             a part of changed values
 --     blocks-next, blocks-none, joined-next, joined-none   the blocks from a row on
---     residuals-count, width-most, residuals-fit           a block's residuals
+--     residuals-count, width-most                          a block's residuals
 --     area-most, entry-length                              a block's bytes
 --     areas-few, entries-few, shares                       all blocks' bytes
 -- Assumes nothing.
-use Prim.Native.Nat.{ℕ, zero, suc, _+_, _-_, _*_, _^_, _≤_, _<_, min}
+use Prim.Native.Nat.{ℕ, zero, suc, _+_, _-_, _*_, _≤_, _<_, min}
 use mathlib.Core.Path.{_≡_, refl, sym, ap, _∙_}
 use mathlib.Core.Logic.{⊎-elim}
 use mathlib.Core.List.{List, [], _∷_, _++_, map}
@@ -13,15 +13,12 @@ use native.Mathlib.Nat.{mul-le-mul-right}
 use native.Mathlib.Omega.{arith}
 use lib.ListN.{length, take, drop, length-append, length-take, length-drop, drop-of-length-le}
 use lib.Seq.{take-all, drop-drop}
-use Rattle.format.specs.Word.{AllBelow}
-use Rattle.format.specs.Stats.{greatest}
 use Rattle.format.specs.Line.{trained, spellLine}
 use Rattle.format.specs.Bodies.{blockResiduals, blockWidth, blockArea, blockEntry, blocksIn, blockCount, blocks, joined, footer}
 use Rattle.format.specs.Writing.{blockSize, blockSizes}
 use Rattle.format.proofs.Lists.{below-or}
-use Rattle.format.proofs.Widths.{legal-most, width-fits}
-use Rattle.format.proofs.Statistics.{greatest-least, greatest-below}
-use Rattle.format.proofs.Lines.{residuals-length, residual-below}
+use Rattle.format.proofs.Widths.{legal-most}
+use Rattle.format.proofs.Lines.{residuals-length}
 use Rattle.format.proofs.WrittenBlocks.{length-blocks, joined-most, length-area, blockWidth-legal, entry-most}
 
 -- ---- a part of changed values
@@ -84,11 +81,6 @@ residuals-count ys = residuals-length (trained ys) ys
 
 pub width-most : (ys : List ℕ) → blockWidth ys ≤ 64
 width-most ys = legal-most (blockWidth ys) (blockWidth-legal ys)
-
--- each residual has at most as many bits as the width says
-pub residuals-fit : (ys : List ℕ) → AllBelow (2 ^ blockWidth ys) (blockResiduals ys)
-unfolding blockWidth blockResiduals
-residuals-fit ys i h = width-fits (greatest (blockResiduals ys)) _ (greatest-below (blockResiduals ys) (residual-below (trained ys) ys)) (greatest-least (blockResiduals ys) i h)
 
 pub area-most : (ys : List ℕ) → length (blockArea ys) ≤ 8 * length ys
 area-most ys = omega (arith, length-area ys, mul-le-mul-right (length ys) (width-most ys))

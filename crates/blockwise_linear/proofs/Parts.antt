@@ -18,7 +18,8 @@ use Rattle.format.proofs.WrittenBlocks.{length-area}
 use Rattle.blockwise_linear.specs.declared.writer.Fit.{Fit}
 use Rattle.blockwise_linear.specs.declared.writer.Fronts.{Fronts}
 use Rattle.blockwise_linear.specs.Writer.{normals, Part, Fitted, BlockTakes, Room, Places, Placed}
-use Rattle.blockwise_linear.proofs.Blocks.{entry-length, width-most, residuals-count, residuals-fit}
+use Rattle.format.proofs.WrittenBlocks.{residuals-fit}
+use Rattle.blockwise_linear.proofs.Blocks.{entry-length, width-most, residuals-count}
 
 -- ---- the front of a buffer of 512
 

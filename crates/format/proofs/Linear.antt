@@ -1,5 +1,7 @@
--- Linear's round trip (`linear-round`), that its lowered line has 64-bit numbers (`line-fits`), and that its size in the choice is the length of what
--- it writes (`linear-size`).
+-- Linear's round trip.
+--     residual-fits, line-fits     residuals over the lowered line fit the width, and the line has 64-bit numbers
+--     linear-round                 what is written opens and comes back
+--     linear-size                  the size in the choice is the length of what is written
 -- Assumes nothing.
 use mathlib.Core.Path.{_≡_, refl, ap, _∙_}
 use mathlib.Core.Bool.{true}
@@ -64,9 +66,9 @@ module _ (vs : List ℕ) where
       (residual-at _ vs r h ∙ residual-lowered (firstLine vs) r (getD vs r 0) (least raised) half (omega arith) least-here)
 
   -- so it fits the width of the deviations' span
-  left-fits : (r : ℕ) → r < length vs → getD (residuals (linearLine vs) vs) r 0 < 2 ^ linearWidth vs
+  pub residual-fits : (r : ℕ) → r < length vs → getD (residuals (linearLine vs) vs) r 0 < 2 ^ linearWidth vs
   unfolding linearWidth
-  left-fits r h =
+  residual-fits r h =
       rw (left-at r h)
       (width-fits (greatest raised - least raised) _ (omega (arith, greatest-below raised raised-below)) (omega (arith, greatest-least raised r (rw raised-length h))))
 
@@ -133,7 +135,7 @@ module _ (vs : List ℕ) where
     unfolding packedOf placeIn
     packed-back r h =
         rw (add-zero, behind-line)
-        (round-trip-all bits left r (rw residuals-length h) (left-fits vs r h) ∙ residual-at (linearLine vs) vs r h)
+        (round-trip-all bits left r (rw residuals-length h) (residual-fits vs r h) ∙ residual-at (linearLine vs) vs r h)
 
     value-back : (r : ℕ) → r < length vs
         → valueIn (Linear (linearLine vs) bits) (linearOf (writtenHead vs) fields .column) (blockAt [] (r / 512)) r (packedOf (linearOf (writtenHead vs) fields .column) (blockAt [] (r / 512)) column r) ≡ readsAs vs r

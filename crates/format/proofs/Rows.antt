@@ -22,7 +22,7 @@ use Rattle.format.specs.declared.Column.{Column}
 use Rattle.format.specs.declared.Block.{Block}
 use Rattle.format.specs.Outcome.{Outcome.value, Outcome.refusal, _>>_, demand}
 use Rattle.format.specs.Word.{modAdd}
-use Rattle.format.specs.Packing.{legal, unpack, bitAt}
+use Rattle.format.specs.Packing.{legal, bitAt}
 use Rattle.format.specs.Line.{lineAt}
 use Rattle.format.specs.Opening.{Loaded, opened}
 use Rattle.format.specs.Reading.{Place, placeIn, placeOf, blockAt, hasBlock, fits, packedOf, valueIn, rowIn, rowAt}

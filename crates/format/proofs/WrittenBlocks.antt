@@ -1,7 +1,7 @@
 -- The blocks that Blockwise writes: how they part a list, that their footer is read back, and where a block stands in table and area.
 --     blocks-split, length-blocks, blockOf, laterOf, parted, row-inside-block, row-of-block     how blocks part a list
 --     joined-append, joined-most                                                                lists one after another
---     length-area, block-back                                                                   a block's packed bytes, and that line and bytes make its values
+--     length-area, residuals-fit, block-back                                                    a block's packed bytes, and that line and bytes make its values
 --     blockWidth-legal, entry-most, read-entry, numbersFrom, read-blocks                        the footer is read back
 --     BlockAt, table-block, area-block                                                          where a block among others stands in table and area
 -- Assumes nothing.
@@ -16,7 +16,7 @@ use lib.Seq.{drop-drop, drop-append-add, drop-append-seam, getD-take, getD-drop,
 use Rattle.format.specs.declared.Fields.{Fields}
 use Rattle.format.specs.declared.Line.{Line}
 use Rattle.format.specs.Outcome.{Outcome.value}
-use Rattle.format.specs.Word.{bytesFor, modAdd}
+use Rattle.format.specs.Word.{bytesFor, modAdd, AllBelow}
 use Rattle.format.specs.Varint.{spell}
 use Rattle.format.specs.Packing.{legal, unpack}
 use Rattle.format.specs.Stats.{greatest}
@@ -70,19 +70,16 @@ unfolding blockArea blockResiduals
 length-area ys = length-packed (blockWidth ys) (residuals (trained ys) ys) ∙ ap (λ (n : ℕ). bytesFor (blockWidth ys * n)) (residuals-length (trained ys) ys)
 
 -- a block's residuals fit its width
-residual-fits : (ys : List ℕ) (j : ℕ) → j < length ys → getD (blockResiduals ys) j 0 < 2 ^ blockWidth ys
+pub residuals-fit : (ys : List ℕ) → AllBelow (2 ^ blockWidth ys) (blockResiduals ys)
 unfolding blockResiduals blockWidth
-residual-fits ys j h =
-    let rs = residuals (trained ys) ys in
-    let inside : j < length rs = rw residuals-length h in
-    width-fits (greatest rs) (getD rs j 0) (greatest-below rs (residual-below (trained ys) ys)) (greatest-least rs j inside)
+residuals-fit ys i h = width-fits (greatest (blockResiduals ys)) _ (greatest-below (blockResiduals ys) (residual-below (trained ys) ys)) (greatest-least (blockResiduals ys) i h)
 
 -- the line and what is unpacked from a block's area make the value, whatever bytes follow
 pub block-back : (ys rest : List ℕ) (j : ℕ) → j < length ys → getD ys j 0 < 2 ^ 64 → modAdd (lineAt (trained ys) j) (unpack (blockWidth ys) (blockArea ys ++ rest) j) ≡ getD ys j 0
 unfolding blockArea blockResiduals
 block-back ys rest j h fit =
     let inside : j < length (residuals (trained ys) ys) = rw residuals-length h in
-    rw (round-trip (blockWidth ys) (residuals (trained ys) ys) rest j inside (residual-fits ys j h)) (rw (residual-at (trained ys) ys j h) (restored (trained ys) j (getD ys j 0) fit))
+    rw (round-trip (blockWidth ys) (residuals (trained ys) ys) rest j inside (residuals-fit ys j inside)) (rw (residual-at (trained ys) ys j h) (restored (trained ys) j (getD ys j 0) fit))
 
 -- ---- a block's fields
 

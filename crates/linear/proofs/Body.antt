@@ -24,7 +24,7 @@ use Rattle.bitpacker.specs.Packer.{Packable}
 use Rattle.bitpacker.proofs.PackerLaws.{packed-count}
 use Rattle.linear.specs.declared.writer.Fit.{Fit}
 use Rattle.linear.specs.Writer.{Fits}
-use Rattle.linear.proofs.Deviations.{residual-fits}
+use Rattle.format.proofs.Linear.{residual-fits}
 
 module _ {vs : List ℕ} {fit : Fit} (f : Fits vs fit) where
   pub fit-most : fit .bits ≤ 64

@@ -4,27 +4,23 @@
 --                                                              the walk for the least and the greatest
 --     Copying, copying-starts, copying-next, copying-ends      the walk that copies the first 512 values
 --     low-high, fit-is                                         the fit from a spread
---     residual-fits                                            what is left above the final line has the fit's width
 -- Assumes nothing.
 use mathlib.Core.Path.{_≡_, refl, sym, ap, _∙_}
 use mathlib.Core.List.{List}
-use Prim.Native.Nat.{ℕ, _+_, _-_, _^_, _≤_, _<_, min, max}
+use Prim.Native.Nat.{ℕ, _+_, _-_, _≤_, _<_, min, max}
 use native.Mathlib.Numerals.{add-one}
 use native.Mathlib.Omega.{arith}
 use lib.ListN.{length, getD, take, drop, set, length-map, length-set}
 use lib.Seq.{take-suc, take-suc-set, take-all}
 use Rattle.format.specs.declared.Line.{Line}
-use Rattle.format.specs.Word.{modAdd, modSub, AllBelow}
+use Rattle.format.specs.Word.{modAdd, modSub}
 use Rattle.format.specs.Packing.{width}
 use Rattle.format.specs.Stats.{foldFrom, least, greatest}
 use Rattle.format.specs.Line.{lineAt, residuals}
 use Rattle.format.specs.Bodies.{half, deviations, firstLine, linearLine, linearWidth}
 use Rattle.format.proofs.Lists.{map-at}
-use Rattle.format.proofs.Words.{add-below, sub-raised}
-use Rattle.format.proofs.Widths.{width-fits}
 use Rattle.format.proofs.Folds.{fold-step, fold-end, reduce-start}
-use Rattle.format.proofs.Statistics.{least-most, greatest-least, greatest-below}
-use Rattle.format.proofs.Lines.{line-below, residuals-length, residual-at, residual-lowered}
+use Rattle.format.proofs.Lines.{residuals-length, residual-at}
 use Rattle.stats.proofs.Described.{ordered}
 use Rattle.linear.specs.declared.writer.Spread.{Spread}
 use Rattle.linear.specs.Writer.{Spreads, Fits}
@@ -112,25 +108,3 @@ pub fit-is : (vs : List ℕ) {l : Line} {s : Spread} {raised intercept w : ℕ} 
 unfolding linearLine linearWidth
 fit-is vs first s up down wide =
     record { line = rw (down, up, s .low, first); bits = rw (wide, s .low, s .high, first) }
-
--- ---- what is left above the final line
-
-module _ (vs : List ℕ) where
-  abbrev raised : List ℕ
-  raised = deviations (firstLine vs) vs
-
-  -- a deviation is the value raised by a half, less the first line
-  raised-at : (i : ℕ) → i < length vs → getD raised i 0 ≡ modSub (modAdd (getD vs i 0) half) (lineAt (firstLine vs) i)
-  raised-at i h = deviation-at (firstLine vs) vs i h ∙ sub-raised (getD vs i 0) (lineAt (firstLine vs) i) half (line-below (firstLine vs) i)
-
-  raised-below : AllBelow (2 ^ 64) raised
-  raised-below i h = rw (deviation-at (firstLine vs) vs i (rw deviations-length at h)) (add-below _ half)
-
-  pub residual-fits : (i : ℕ) → i < length vs → getD (residuals (linearLine vs) vs) i 0 < 2 ^ linearWidth vs
-  unfolding linearLine linearWidth
-  residual-fits i h =
-      let inside : i < length raised = rw deviations-length h in
-      let low : least raised ≤ modSub (modAdd (getD vs i 0) half) (lineAt (firstLine vs) i) = rw (raised-at i h) at (least-most raised i inside) in
-      let high : modSub (modAdd (getD vs i 0) half) (lineAt (firstLine vs) i) ≤ greatest raised = rw (raised-at i h) at (greatest-least raised i inside) in
-      rw (residual-at (linearLine vs) vs i h, residual-lowered (firstLine vs) i (getD vs i 0) (least raised) half (omega arith) low)
-      (width-fits (greatest raised - least raised) _ (omega (arith, greatest-below raised raised-below)) (omega arith))

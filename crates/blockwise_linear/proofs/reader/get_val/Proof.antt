@@ -1,7 +1,7 @@
 -- `blockwise_linear::reader::get_val` meets its contract: line plus packed number, both at the row within the block, is the multiple.
 -- Assumes nothing.
 use Prim.Native.Nat.{ℕ, _+_, _%_}
-use mathlib.Core.Path.{_≡_, ap, sym, _∙_}
+use mathlib.Core.Path.{_≡_, _∙_}
 use mathlib.Core.List.{List}
 use denote.Ref.{now}
 use lib.ListN.{drop}

@@ -1,6 +1,6 @@
 -- `blockwise_linear::reader::residual` meets its contract: the part from the block's start on holds the row's number; a number of no bits is 0.
 -- Assumes nothing.
-use Prim.Native.Nat.{ℕ, _+_, _-_, _≤_}
+use Prim.Native.Nat.{ℕ, _+_, _≤_}
 use mathlib.Core.Path.{_≡_, ap, _∙_}
 use mathlib.Core.Logic.{⊎-elim}
 use mathlib.Core.List.{List}

@@ -1,11 +1,10 @@
 -- `linear::reader::get_val` meets its contract: the part from the area's start on holds the row's number, and the tests are those of the bounds.
 -- Assumes nothing.
 use Prim.Native.Nat.{ℕ, _+_, _-_, _*_}
-use mathlib.Core.Path.{_≡_, sym, ap, _∙_}
+use mathlib.Core.Path.{_≡_}
 use mathlib.Core.Bool.{Bool, true, false, _&&_}
 use mathlib.Core.List.{List, [], _∷_}
-use native.Mathlib.Nat.{add-zero, mul-comm}
-use native.Mathlib.Omega.{arith}
+use native.Mathlib.Nat.{add-zero}
 use denote.Ref.{now}
 use lib.Dec.{leb}
 use lib.ListN.{length, take, drop}
@@ -13,7 +12,6 @@ use borrow.Rule.Slice.PartAt.{part-to-end}
 use borrow.Author.Needs.{needs}
 use borrow.Author.Tests.{le-leb, lt-leb}
 use Rattle.format.specs.declared.Block.{Block}
-use Rattle.format.specs.declared.Codec.{Codec}
 use Rattle.format.specs.declared.Codec.the-variants.{Linear}
 use Rattle.format.specs.declared.Column.{Column}
 use Rattle.format.specs.declared.Line.{Line}
