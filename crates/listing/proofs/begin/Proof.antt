@@ -1,0 +1,68 @@
+-- `begin` meets its contract: a refusal's line, or a column's first line, whose maximum has 64 bits as opening found.
+-- Assumes nothing.
+use borrow.Author.Needs.{needs}
+use Prim.Native.Nat.{_+_, _*_, _^_, _<_}
+use Rattle.format.specs.Refusals.{openedMeaning}
+use Rattle.format.proofs.Outcomes.{told}
+use native.Mathlib.Omega.{arith}
+use Rattle.listing.proofs.Beginnings.{begun-refused, begun-column}
+use Rattle.listing.proofs.Limits.{here-bounds}
+use Rattle.listing.proofs.begin.Statement.{statement}
+use Rattle.listing.proofs.begin.Tie as tie
+
+open-requires : tie.Need-open-requires
+open-requires c κs = search needs
+
+enum-known-opened : tie.Need-enum-known-opened
+enum-known-opened c = search needs
+
+enum-told : tie.Need-enum-told
+enum-told c = search needs
+
+refusal-number-requires : tie.Need-refusal-number-requires
+refusal-number-requires c κs = search needs
+
+refused-line-requires : tie.Need-refused-line-requires
+refused-line-requires c κs = search needs
+
+returns : tie.Need-returns
+returns c =
+    let told = c .before .before .before in
+    begun-refused (told .before .before .«open» .ensures) (c .refused-line .ensures .1) (told .enum-told .given .1) (c .before .before .refusal-number .ensures) (c .refused-line .ensures .0)
+
+-- the maximum has 64 bits
+bounds : (c : tie.After-opened) → let x = c .opened .given .0 .0 in x .minimum + x .gcd * x .count < 2 ^ 64
+bounds c = here-bounds _ _ (told openedMeaning (c .before .before .«open» .ensures .answer) (c .opened .given .1))
+
+mul-max : tie.Need-mul-max
+mul-max c = omega (arith, bounds (c .before .before))
+
+add-max : tie.Need-add-max
+add-max c = omega (arith, bounds (c .before .before .before))
+
+code-of-requires : tie.Need-code-of-requires
+code-of-requires c κs = search needs
+
+head-line-requires : tie.Need-head-line-requires
+head-line-requires c κs = search needs
+
+returns-2 : tie.Need-returns-2
+returns-2 c =
+    let o = c .before .before .before .before .before .before in
+    begun-column (o .before .before .«open» .ensures) (c .head-line .ensures .1) (o .opened .given .1) (c .before .before .code-of .ensures) (c .head-line .ensures .0)
+
+pub begin-spec : {M : Type 1} → statement M
+begin-spec =
+    tie.close
+    (tie.spec
+    open-requires
+    enum-known-opened
+    enum-told
+    refusal-number-requires
+    refused-line-requires
+    returns
+    mul-max
+    add-max
+    code-of-requires
+    head-line-requires
+    returns-2)
