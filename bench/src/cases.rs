@@ -1,0 +1,166 @@
+//! The cases: one work done by both sides, whose answers must agree.
+
+use std::hint::black_box;
+use std::sync::Arc;
+
+use columnar::column_values::{load_u64_based_column_values, serialize_u64_based_column_values};
+use columnar::{CodecType, ColumnValues, OwnedBytes};
+use hulemartob::{Column, column_stats, most_bytes, serialize_into};
+
+use crate::inputs;
+
+type Work = Box<dyn FnMut() -> u64>;
+
+/// A work on so many rows. Each side answers with a number that says what it found.
+pub struct Case {
+    pub name: String,
+    pub rows: usize,
+    pub ours: Work,
+    pub theirs: Work,
+}
+
+const CODECS: [(u8, &str); 3] = [(0, "Bitpacked"), (1, "Linear"), (2, "Blockwise")];
+const TYPES: [CodecType; 3] = [CodecType::Bitpacked, CodecType::Linear, CodecType::BlockwiseLinear];
+
+fn sum(values: impl Iterator<Item = u64>) -> u64 {
+    values.fold(0, |sum, value| sum.wrapping_add(value))
+}
+
+/// A column that both sides have opened.
+struct Both {
+    bytes: &'static [u8],
+    ours: Arc<Column<'static>>,
+    theirs: Arc<dyn ColumnValues<u64>>,
+}
+
+impl Both {
+    fn open(values: &[u64], codec: u8) -> Both {
+        let mut out = vec![0; most_bytes(values.len())];
+        let length = serialize_into(values, &[codec], &mut out).unwrap();
+        out.truncate(length);
+        let bytes: &'static [u8] = out.leak();
+        let theirs = load_u64_based_column_values(OwnedBytes::new(bytes.to_vec())).unwrap();
+        Both { bytes, ours: Arc::new(Column::open(bytes).unwrap()), theirs }
+    }
+}
+
+fn writing(name: String, values: Vec<u64>, codecs: Vec<u8>) -> Case {
+    let rows = values.len();
+    let values = Arc::new(values);
+    let (mut out, mut vec) = (vec![0; most_bytes(rows)], Vec::with_capacity(most_bytes(rows)));
+    let types: Vec<CodecType> = codecs.iter().map(|&codec| TYPES[codec as usize]).collect();
+    let theirs = values.clone();
+    Case {
+        name,
+        rows,
+        ours: Box::new(move || serialize_into(black_box(&values), &codecs, &mut out).unwrap() as u64),
+        theirs: Box::new(move || {
+            vec.clear();
+            serialize_u64_based_column_values(&black_box(&theirs[..]), &types, &mut vec).unwrap();
+            vec.len() as u64
+        }),
+    }
+}
+
+fn statistics(name: String, values: Vec<u64>) -> Case {
+    let rows = values.len();
+    let values = Arc::new(values);
+    let theirs = values.clone();
+    Case {
+        name,
+        rows,
+        ours: Box::new(move || column_stats(black_box(&values)).map(|s| s.minimum ^ s.maximum ^ s.gcd).unwrap()),
+        theirs: Box::new(move || {
+            let stats = columnar::stats(black_box(&theirs));
+            stats.min_value ^ stats.max_value ^ stats.gcd.get()
+        }),
+    }
+}
+
+fn opening(name: String, both: Both, rows: usize) -> Case {
+    let owned = OwnedBytes::new(both.bytes.to_vec());
+    Case {
+        name,
+        rows,
+        ours: Box::new(move || Column::open(black_box(both.bytes)).unwrap().max_value()),
+        theirs: Box::new(move || load_u64_based_column_values::<u64>(black_box(&owned).clone()).unwrap().max_value()),
+    }
+}
+
+/// Rows in no order, a call for each.
+fn single_rows(name: String, both: &Both, rows: usize) -> Case {
+    let list = Arc::new(inputs::some_rows(rows, rows));
+    let (ours, theirs, again) = (both.ours.clone(), both.theirs.clone(), list.clone());
+    Case {
+        name,
+        rows,
+        ours: Box::new(move || sum(list.iter().map(|&row| ours.row(black_box(row)).unwrap()))),
+        theirs: Box::new(move || sum(again.iter().map(|&row| theirs.get_val(black_box(row))))),
+    }
+}
+
+/// All rows in turn, a call for each here, one call for all of them there.
+fn all_rows(name: String, both: &Both, rows: usize) -> Case {
+    let (ours, theirs) = (both.ours.clone(), both.theirs.clone());
+    let (mut here, mut there) = (vec![0; rows], vec![0; rows]);
+    Case {
+        name,
+        rows,
+        ours: Box::new(move || {
+            for (row, value) in (0..).zip(&mut here) {
+                *value = ours.row(row).unwrap();
+            }
+            sum(here.iter().copied())
+        }),
+        theirs: Box::new(move || {
+            theirs.get_range(0, &mut there);
+            sum(there.iter().copied())
+        }),
+    }
+}
+
+/// The rows with the lower half of the values.
+fn looking_up(name: String, both: &Both, rows: usize) -> Case {
+    let (ours, theirs) = (both.ours.clone(), both.theirs.clone());
+    let range = ours.min_value()..=ours.min_value() + (ours.max_value() - ours.min_value()) / 2;
+    let (mut found, mut hits, again) = (vec![0; rows], Vec::with_capacity(rows), range.clone());
+    Case {
+        name,
+        rows,
+        ours: Box::new(move || ours.lookup_into(black_box(range.clone()), 0..rows as u32, &mut found).unwrap() as u64),
+        theirs: Box::new(move || {
+            hits.clear();
+            theirs.get_row_ids_for_value_range(black_box(again.clone()), 0..rows as u32, &mut hits);
+            hits.len() as u64
+        }),
+    }
+}
+
+/// All cases, on columns of so many rows.
+pub fn all(rows: usize) -> Vec<Case> {
+    let mut cases = vec![
+        statistics("statistics, gcd 1".into(), inputs::values(0, 32, rows)),
+        statistics("statistics, gcd 10^9".into(), inputs::times(rows)),
+    ];
+    for (codec, name) in CODECS {
+        for bits in [4, 13, 20, 32, 64].into_iter().filter(|&bits| codec == 0 || bits < 64) {
+            let values = inputs::values(codec, bits, rows);
+            let both = Both::open(&values, codec);
+            cases.push(single_rows(format!("{name} {bits}: single rows"), &both, rows));
+            cases.push(all_rows(format!("{name} {bits}: all rows, there by get_range"), &both, rows));
+            cases.push(looking_up(format!("{name} {bits}: lookup"), &both, rows));
+            cases.push(writing(format!("{name} {bits}: writing"), values, vec![codec]));
+            cases.push(opening(format!("{name} {bits}: opening"), both, rows));
+        }
+    }
+    cases.push(writing("any codec: writing times".into(), inputs::times(rows), vec![0, 1, 2]));
+    cases.push(writing("any codec: writing noise".into(), inputs::values(0, 32, rows), vec![0, 1, 2]));
+    cases
+}
+
+/// Writing with a choice of all codecs, and reading every row back.
+pub fn growing(rows: usize) -> [Case; 2] {
+    let values = inputs::times(rows);
+    let both = Both::open(&values, 2);
+    [all_rows("reading".into(), &both, rows), writing("writing".into(), values, vec![0, 1, 2])]
+}

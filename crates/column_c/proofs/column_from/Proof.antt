@@ -1,0 +1,71 @@
+-- `column_c::column_from` meets its contract: the rows are tested first, and each arm is a case of the codec's definition.
+-- Assumes nothing.
+use Rattle.column_c.proofs.Columns.{no-rows, column-is, no-codec, bitpacked-is, linear-is, too-wide, blockwise-is, unknown}
+use borrow.Author.Needs.{needs}
+use Rattle.column_c.proofs.column_from.Statement.{statement}
+use Rattle.column_c.proofs.column_from.Tie as tie
+
+element-copy-out-if1 : tie.Need-element-copy-out-if1
+element-copy-out-if1 c = search needs
+
+returns : tie.Need-returns
+returns c = no-rows _ (c .if1 .taken)
+
+element-copy-out-match : tie.Need-element-copy-out-match
+element-copy-out-match c = search needs
+
+column-with-requires : tie.Need-column-with-requires
+column-with-requires c κs = search needs
+
+element-copy-out-bits : tie.Need-element-copy-out-bits
+element-copy-out-bits c = search needs
+
+returns-2 : tie.Need-returns-2
+returns-2 c = no-codec _ (c .before .before .before .before .if1 .left) (too-wide _ _ _ _ (c .before .before .match .keys2) (c .if2 .taken))
+
+element-copy-out-t17 : tie.Need-element-copy-out-t17
+element-copy-out-t17 c = search needs
+
+element-copy-out-t24 : tie.Need-element-copy-out-t24
+element-copy-out-t24 c = search needs
+
+cast-t26 : tie.Need-cast-t26
+cast-t26 c = search needs
+
+column-with-requires-2 : tie.Need-column-with-requires-2
+column-with-requires-2 c κs = search needs
+
+column-with-requires-3 : tie.Need-column-with-requires-3
+column-with-requires-3 c κs = search needs
+
+returns-3 : tie.Need-returns-3
+returns-3 c = column-is _ _ (c .before .before .before .if1 .left) (bitpacked-is _ _ _ _ (c .before .match .keys1)) (c .column-with .ensures)
+
+returns-4 : tie.Need-returns-4
+returns-4 c = column-is _ _ (c .before .before .before .before .before .before .before .if1 .left) (linear-is _ _ _ _ (c .before .before .before .before .before .match .keys2) (c .before .before .before .if2 .left)) (c .column-with2 .ensures)
+
+returns-5 : tie.Need-returns-5
+returns-5 c = column-is _ _ (c .before .before .before .if1 .left) (blockwise-is _ _ _ _ (c .before .match .keys3)) (c .column-with3 .ensures)
+
+returns-6 : tie.Need-returns-6
+returns-6 c = no-codec _ (c .before .before .if1 .left) (unknown _ _ _ _ (c .match .rest .0 .0 .1) (c .match .rest .0 .1) (c .match .rest .1))
+
+pub column-from-spec : {M : Type 1} → statement M
+column-from-spec =
+    tie.close
+    (tie.spec
+    element-copy-out-if1
+    returns
+    element-copy-out-match
+    column-with-requires
+    element-copy-out-bits
+    returns-2
+    element-copy-out-t17
+    element-copy-out-t24
+    cast-t26
+    column-with-requires-2
+    column-with-requires-3
+    returns-3
+    returns-4
+    returns-5
+    returns-6)

@@ -1,0 +1,109 @@
+-- Answers as plain numbers: what a C or a Rust caller hands over and finds.
+-- Assumes nothing.
+use Prim.Native.Nat.{ℕ, zero, suc, _^_}
+use mathlib.Core.Path.{_≡_}
+use mathlib.Core.List.{List, [], _∷_}
+use lib.Dec.{ltb}
+use lib.ListN.{getD}
+use Rattle.format.specs.declared.Codec.{Codec}
+use Rattle.format.specs.declared.Codec.the-variants.{Bitpacked, Linear, Blockwise}
+use Rattle.format.specs.declared.Column.{Column}
+use Rattle.format.specs.declared.ColumnStats.{ColumnStats}
+use Rattle.format.specs.Listing.{codeOf}
+use Rattle.format.specs.Lookup.{lookedUp, within}
+use Rattle.format.specs.Outcome.{Outcome, Outcome.value, Outcome.refusal, _>>=_, _>>_, demand, howMany, stored}
+use Rattle.format.specs.Opening.{Loaded, columnIn, tableIn}
+use Rattle.format.specs.Reading.{rowAt}
+
+-- ---- refusals
+
+-- the two numbers of a refusal: its own, and the value that it also returns, else 0; both are 0 where nothing is refused
+abbrev pub told : {A : Type 0} → Outcome A → List ℕ
+told (value a) = 0 ∷ 0 ∷ []
+told (refusal number also) = number ∷ getD also 0 0 ∷ []
+
+-- the number that was found, 0 on refusal
+abbrev pub orZero : Outcome ℕ → ℕ
+orZero (value n) = n
+orZero (refusal number also) = 0
+
+-- ---- statistics and columns
+
+-- the four numbers of statistics
+abbrev pub statsNumbers : ColumnStats → List ℕ
+statsNumbers s = s .minimum ∷ s .maximum ∷ s .gcd ∷ s .rows ∷ []
+
+-- a codec's own three numbers: slope, intercept and width of a Linear one
+abbrev pub ownNumbers : Codec → List ℕ
+ownNumbers Bitpacked = 0 ∷ 0 ∷ 0 ∷ []
+ownNumbers (Linear l w) = l .slope ∷ l .intercept ∷ w ∷ []
+ownNumbers Blockwise = 0 ∷ 0 ∷ 0 ∷ []
+
+-- the ten numbers of an opened column
+abbrev pub columnNumbers : Column → List ℕ
+columnNumbers c = codeOf (c .codec) ∷ c .minimum ∷ c .gcd ∷ c .count ∷ c .rows ∷ c .start ∷ c .size ∷ ownNumbers (c .codec)
+
+-- the column of ten numbers, with its codec
+abbrev pub columnWith : List ℕ → Codec → Column
+columnWith ns codec =
+    record {
+      minimum = getD ns 1 0;
+      gcd = getD ns 2 0;
+      count = getD ns 3 0;
+      rows = getD ns 4 0;
+      start = getD ns 5 0;
+      size = getD ns 6 0;
+      codec = codec;
+    }
+
+-- the codec of a number, with its own three; a width is a byte, and no other number is a codec
+unfoldable pub codecFrom : (code slope intercept bits : ℕ) → Outcome Codec
+codecFrom zero slope intercept bits = value Bitpacked
+codecFrom (suc zero) slope intercept bits =
+    demand (ltb bits (2 ^ 8)) 13 [] >> value (Linear (record { slope = slope; intercept = intercept }) bits)
+codecFrom (suc (suc zero)) slope intercept bits = value Blockwise
+codecFrom (suc (suc (suc code))) slope intercept bits = refusal 13 []
+
+-- the column of ten numbers, if they are one
+unfoldable pub columnFrom : List ℕ → Outcome Column
+columnFrom ns = do
+  demand (ltb (getD ns 4 0) (2 ^ 32)) 13 []
+  codec ← codecFrom (getD ns 0 0) (getD ns 7 0) (getD ns 8 0) (getD ns 9 0)
+  value (columnWith ns codec)
+
+-- reading a row of the column of ten numbers
+abbrev pub rowFrom : (ns t s : List ℕ) (r : ℕ) → Outcome ℕ
+rowFrom ns t s r = columnFrom ns >>= (λ (col : Column). rowAt col t s r)
+
+-- looking its rows up
+abbrev pub foundFrom : (ns t s : List ℕ) (low high first end room : ℕ) → Outcome (List ℕ)
+foundFrom ns t s low high first end room =
+    columnFrom ns >>= (λ (col : Column). lookedUp (rowAt col t s) (col .rows) (within low high) first end room)
+
+-- ---- what a call leaves
+
+-- a lent array afterwards: the numbers that were found; a refusal changes nothing
+abbrev pub filled : Outcome (List ℕ) → (old : List ℕ) → List ℕ
+filled (value ns) old = ns
+filled (refusal number also) old = old
+
+-- the result of a call and the two numbers of its refusal are those of one outcome
+pub record Answers (outcome : Outcome ℕ) (result : ℕ) (refusal : List ℕ) : Type 0 where
+  pub result-is : result ≡ orZero outcome
+  pub refusal-is : refusal ≡ told outcome
+
+-- the same of a call that puts what it finds into a lent list
+pub record Lists (outcome : Outcome (List ℕ)) (result : ℕ) (refusal before after : List ℕ) : Type 0 where
+  pub answers : Answers (howMany outcome) result refusal
+  pub list : after ≡ stored outcome before
+
+-- an opening: the numbers of its refusal and of its column, and the block table
+pub record Opens (outcome : Outcome Loaded) (refusal column column′ table table′ : List ℕ) : Type 0 where
+  pub refusal-is : refusal ≡ told outcome
+  pub column-is : column′ ≡ filled (columnIn outcome >>= (λ (c : Column). value (columnNumbers c))) column
+  pub table-is : table′ ≡ stored (tableIn outcome) table
+
+-- statistics: the numbers of their refusal, and their own
+pub record States (outcome : Outcome ColumnStats) (refusal stats stats′ : List ℕ) : Type 0 where
+  pub refusal-is : refusal ≡ told outcome
+  pub stats-are : stats′ ≡ filled (outcome >>= (λ (s : ColumnStats). value (statsNumbers s))) stats

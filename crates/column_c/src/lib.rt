@@ -1,0 +1,255 @@
+// The library for Rust and C: the entry points over plain numbers. A refusal is two numbers, an opened column ten. Every call puts its refusal's
+// numbers, both 0 where nothing is refused; a refusal changes no other lent entry.
+ghost use mathlib.Core.Path.{_≡_};
+ghost use mathlib.Core.List.{[], _∷_};
+ghost use Prim.Native.Nat.{_/_, _^_, _<_};
+ghost use lib.ListN.{length, getD};
+ghost use Rattle.format.specs.Listing.{codeOf};
+ghost use Rattle.format.specs.Opening.{opened};
+ghost use Rattle.format.specs.Refusals.{paper, openedMeaning};
+ghost use Rattle.format.specs.Stats.{stated};
+ghost use Rattle.format.specs.Writing.{written};
+ghost use Rattle.column_c.specs.Numbers.{ownNumbers, columnNumbers, columnWith, columnFrom, rowFrom, foundFrom, Answers, Lists, Opens, States};
+use format::Codec;
+use format::Column;
+use format::ColumnRow;
+use format::Found;
+use format::Line;
+use format::Opened;
+use format::Refusal;
+use format::RowRead;
+use format::Stated;
+use format::Written;
+
+// The two numbers where nothing is refused.
+const ACCEPTED: [u64; 2] = [0, 0];
+
+// The value that a refusal also returns, 0 where it returns none.
+fn also(refusal: Refusal) -> u64
+    ensures { λ r. ⌜ r ≡ getD (paper refusal .1) 0 0 ⌝ }
+{
+    match refusal {
+        Refusal::TooManyValues => 0,
+        Refusal::UnknownCodec { place } => place as u64,
+        Refusal::NoCodecApplies => 0,
+        Refusal::OutputShort { needed } => needed as u64,
+        Refusal::NotAColumn => 0,
+        Refusal::BadField { offset } => offset as u64,
+        Refusal::GcdZero => 0,
+        Refusal::OutOfRange => 0,
+        Refusal::IllegalWidth { offset } => offset as u64,
+        Refusal::AreaShort => 0,
+        Refusal::TableShort { blocks } => blocks as u64,
+        Refusal::NoSuchRow => 0,
+        Refusal::Unfit => 0,
+        Refusal::OutOfBounds { row } => row as u64,
+        Refusal::ListShort { found } => found as u64,
+        Refusal::OverLimit => 0,
+    }
+}
+
+// The two numbers of a refusal.
+fn told(refusal: Refusal) -> [u64; 2]
+    ensures { λ r. ⌜ r ≡ paper refusal .0 ∷ getD (paper refusal .1) 0 0 ∷ [] ⌝ }
+{
+    [word::wide(refusal.number()), also(refusal)]
+}
+
+// A codec's number and its own three.
+fn codec_numbers(codec: Codec) -> [u64; 4]
+    ensures { λ r. ⌜ r ≡ codeOf codec ∷ ownNumbers codec ⌝ }
+{
+    match codec {
+        Codec::Bitpacked => [0, 0, 0, 0],
+        Codec::Linear(line, bits) => [1, line.slope, line.intercept, word::wide(bits)],
+        Codec::Blockwise => [2, 0, 0, 0],
+    }
+}
+
+// The ten numbers of a column.
+fn column_numbers(column: Column) -> [u64; 10]
+    ensures { λ r. ⌜ r ≡ columnNumbers column ⌝ }
+{
+    let codec = column.codec;
+    let own = codec_numbers(codec);
+    [
+        own[0],
+        column.minimum,
+        column.gcd,
+        column.count,
+        column.rows as u64,
+        column.start as u64,
+        column.size as u64,
+        own[1],
+        own[2],
+        own[3],
+    ]
+}
+
+// Internal: asks for fewer than 2^32 rows. The column of ten numbers, with its codec.
+fn column_with(numbers: &[u64; 10], codec: Codec) -> Column
+    requires { ⌜ getD (now numbers) 4 0 < 2 ^ 32 ⌝ }
+    ensures { λ r. ⌜ r ≡ columnWith (now (numbers .entry)) codec ⌝ }
+{
+    Column {
+        minimum: numbers[1],
+        gcd: numbers[2],
+        count: numbers[3],
+        rows: numbers[4] as u32,
+        start: numbers[5] as usize,
+        size: numbers[6] as usize,
+        codec,
+    }
+}
+
+// The column of ten numbers, if they are one.
+fn column_from(numbers: &[u64; 10]) -> Opened
+    ensures { λ r. ⌜ openedMeaning r ≡ columnFrom (now (numbers .entry)) ⌝ }
+{
+    if 0xffff_ffff < numbers[4] {
+        return Opened::Refused(Refusal::Unfit);
+    }
+    match numbers[0] {
+        0 => Opened::Column(column_with(numbers, Codec::Bitpacked)),
+        1 => {
+            let bits = numbers[9];
+            if 255 < bits {
+                return Opened::Refused(Refusal::Unfit);
+            }
+            let line = Line {
+                slope: numbers[7],
+                intercept: numbers[8],
+            };
+            Opened::Column(column_with(numbers, Codec::Linear(line, bits as u8)))
+        }
+        2 => Opened::Column(column_with(numbers, Codec::Blockwise)),
+        _ => Opened::Refused(Refusal::Unfit),
+    }
+}
+
+// The statistics of a list: minimum, maximum, gcd, rows.
+#[no_mangle]
+pub extern "C" fn hulemartob_column_stats(
+    values: &[u64],
+    stats: &mut [u64; 4],
+    refusal: &mut [u64; 2],
+)
+    ensures { λ _. ⌜ States (stated (now (values .entry))) (now (refusal .exit)) (now (stats .entry)) (now (stats .exit)) ⌝ }
+{
+    match u64_based::column_stats(values) {
+        Stated::Stats(s) => {
+            *stats = [s.minimum, s.maximum, s.gcd, s.rows as u64];
+            *refusal = ACCEPTED;
+        }
+        Stated::Refused(q) => {
+            *refusal = told(q);
+        }
+    }
+}
+
+// Writes a list as a column by one of the listed codecs, and returns the column's length, 0 on refusal.
+#[no_mangle]
+pub extern "C" fn hulemartob_serialize(
+    values: &[u64],
+    codecs: &[u8],
+    out: &mut [u8],
+    refusal: &mut [u64; 2],
+) -> usize
+    ensures { λ r. ⌜ Lists (written (now (values .entry)) (now (codecs .entry)) (length (now (out .entry)))) r (now (refusal .exit)) (now (out .entry)) (now (out .exit)) ⌝ }
+{
+    match u64_based::serialize(values, codecs, out) {
+        Written::Length(n) => {
+            *refusal = ACCEPTED;
+            n
+        }
+        Written::Refused(q) => {
+            *refusal = told(q);
+            0
+        }
+    }
+}
+
+// Opens a column: its ten numbers, and its blocks in the table.
+#[no_mangle]
+pub extern "C" fn hulemartob_open(
+    bytes: &[u8],
+    table: &mut [u64],
+    column: &mut [u64; 10],
+    refusal: &mut [u64; 2],
+)
+    ensures { λ _. ⌜ Opens (opened (now (bytes .entry)) (length (now (table .entry)) / 4)) (now (refusal .exit)) (now (column .entry)) (now (column .exit)) (now (table .entry)) (now (table .exit)) ⌝ }
+{
+    match u64_based::open(bytes, table) {
+        Opened::Column(opened) => {
+            *column = column_numbers(opened);
+            *refusal = ACCEPTED;
+        }
+        Opened::Refused(q) => {
+            *refusal = told(q);
+        }
+    }
+}
+
+// The value of a row, 0 on refusal.
+#[no_mangle]
+pub extern "C" fn hulemartob_row(
+    column: &[u64; 10],
+    table: &[u64],
+    bytes: &[u8],
+    row: u32,
+    refusal: &mut [u64; 2],
+) -> u64
+    ensures { λ r. ⌜ Answers (rowFrom (now (column .entry)) (now (table .entry)) (now (bytes .entry)) row) r (now (refusal .exit)) ⌝ }
+{
+    let opened = match column_from(column) {
+        Opened::Column(opened) => opened,
+        Opened::Refused(q) => {
+            *refusal = told(q);
+            return 0;
+        }
+    };
+    match u64_based::row(opened, table, bytes, ColumnRow(row)) {
+        RowRead::Value(v) => {
+            *refusal = ACCEPTED;
+            v
+        }
+        RowRead::Refused(q) => {
+            *refusal = told(q);
+            0
+        }
+    }
+}
+
+// How many rows were found, 0 on refusal: those from `first` to `end` whose value lies from `low` to `high`. They are the first entries of `found`.
+#[no_mangle]
+pub extern "C" fn hulemartob_lookup(
+    column: &[u64; 10],
+    table: &[u64],
+    bytes: &[u8],
+    low: u64,
+    high: u64,
+    first: u32,
+    end: u32,
+    found: &mut [u32],
+    refusal: &mut [u64; 2],
+) -> usize
+    ensures { λ r. ⌜ Lists (foundFrom (now (column .entry)) (now (table .entry)) (now (bytes .entry)) low high first end (length (now (found .entry)))) r (now (refusal .exit)) (now (found .entry)) (now (found .exit)) ⌝ }
+{
+    let opened = match column_from(column) {
+        Opened::Column(opened) => opened,
+        Opened::Refused(q) => {
+            *refusal = told(q);
+            return 0;
+        }
+    };
+    match u64_based::lookup(opened, table, bytes, low, high, first, end, found) {
+        Found::Rows(n) => {
+            *refusal = ACCEPTED;
+            n
+        }
+        Found::Refused(q) => {
+            *refusal = told(q);
+            0
+        }
+    }
+}

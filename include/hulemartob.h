@@ -1,0 +1,91 @@
+/* Columns of 64-bit numbers in the format of tantivy-columnar 0.27.0 (u64_based): statistics, writing, opening, reading, looking up.
+ *
+ * Link with libcolumn_c.a, x86-64 code that `rt staticlib column_c` writes to target/staticlib. It needs no other library.
+ *
+ * What every function does: it ends, and whatever its arguments hold it fails only by a refusal. `refusal` is then {number, value}
+ * by the table below, and nothing else that was lent is changed. Otherwise `refusal` is {0, 0}. All of that is proved, and so is
+ * every answer: crates/column_c states it as an equation with the definitions of the format.
+ *
+ * What every caller owes, since no function can test it:
+ *   - a pointer beside a length points to that many elements, aligned for their type; where the length is 0 it may be anything,
+ *     NULL included;
+ *   - a pointer to an array points to as many elements as are written in its brackets, and is not NULL;
+ *   - what a function may write to (every parameter that is not const) overlaps no other argument, and nobody else reads or writes
+ *     it during the call; nobody writes to the rest during the call.
+ * Functions keep no state and no pointer, and may run in any number of threads.
+ *
+ * A column's ten numbers, which opening writes and reading takes:
+ *    0  codec: 0 Bitpacked, 1 Linear, 2 Blockwise
+ *    1  minimum
+ *    2  gcd
+ *    3  count: the greatest value is minimum + gcd * count
+ *    4  rows
+ *    5  start of the packed area, an offset into the bytes
+ *    6  size of the packed area, in bytes
+ *    7  slope      (the last three: Linear's; 0 for the others)
+ *    8  intercept
+ *    9  width, in bits
+ * Any ten numbers may be handed to reading. Those that are no column (codec above 2, rows above 2^32 - 1, a Linear width above 255)
+ * are refused 13 before anything else.
+ *
+ * The block table of a Blockwise column has four numbers for each 512 rows: slope, intercept, width in bits, and the block's first
+ * byte, counted from the start of the packed area. The other codecs do not look at it.
+ *
+ *    number  refused because                                                                     value
+ *     1      there are 2^32 values or more                                                       0
+ *     2      a codec byte is above 2                                                             its first place in the list
+ *     3      none of the listed codecs applies (Linear asks for 512 values)                      0
+ *     4      the output is shorter than the column                                               the length needed
+ *     5      there are no bytes, or the first is above 2                                         0
+ *     6      a varint or a width byte is cut off, or a varint is 2^64 or more                    the field's offset
+ *     7      the gcd is 0                                                                        0
+ *     8      minimum + gcd * count is 2^64 or more, or rows are 2^32 or more                     0
+ *     9      a width byte is neither 0 to 56 nor 64                                              its offset
+ *    10      the packed area does not fit; the footer's length is missing or too great           0
+ *    11      the block table is too short                                                        the blocks needed
+ *    12      the row is not below the column's rows                                              0
+ *    13      column, table and bytes do not belong together                                      0
+ *    14      a row's value lies outside minimum to minimum + gcd * count                         the row
+ *    15      the list for found rows is too short                                                the rows found
+ */
+#ifndef HULEMARTOB_H
+#define HULEMARTOB_H
+
+#include <stddef.h>
+#include <stdint.h>
+
+#ifdef __cplusplus
+extern "C" {
+#endif
+
+/* Statistics of a list: minimum, maximum, gcd of the differences from the first value (1 where all are 0), rows. Refused 1. */
+void hulemartob_column_stats(const uint64_t *values, size_t values_len, uint64_t stats[4], uint64_t refusal[2]);
+
+/* Writes a list as a column, by that of the listed codecs (a byte each: 0, 1 or 2) whose size is least, the earliest of equals. The
+ * column's bytes are now the first of `out`; the rest of it is unchanged. Returns the column's length, 0 on refusal. Refused 1 to 4,
+ * tested in this order. An output of no bytes is refused 4 with the length needed. */
+size_t hulemartob_serialize(const uint64_t *values, size_t values_len, const uint8_t *codecs, size_t codecs_len, uint8_t *out,
+                            size_t out_len, uint64_t refusal[2]);
+
+/* Opens the column that `bytes` hold: its ten numbers are now in `column`, and its blocks, if it is Blockwise, the first numbers of
+ * `table`; the rest of the table is unchanged. Bytes behind the column are accepted. Refused 5 to 11. A table of no numbers is enough
+ * for Bitpacked and Linear, and else is refused 11 with the blocks needed. */
+void hulemartob_open(const uint8_t *bytes, size_t bytes_len, uint64_t *table, size_t table_len, uint64_t column[10],
+                     uint64_t refusal[2]);
+
+/* Reads a row of an opened column, with the table and the bytes of its opening. Returns the value, 0 on refusal. Refused 12 to 14. */
+uint64_t hulemartob_row(const uint64_t column[10], const uint64_t *table, size_t table_len, const uint8_t *bytes, size_t bytes_len,
+                        uint32_t row, uint64_t refusal[2]);
+
+/* Looks up the rows from `first` to below `end`, which is cut to the column's rows, whose value lies from `low` to `high`. They are now
+ * the first entries of `found`, ascending; the rest of it is unchanged. Returns how many they are, 0 on refusal. The first row of the
+ * run that hulemartob_row refuses decides (13, 14), whatever the range is; then 15. */
+size_t hulemartob_lookup(const uint64_t column[10], const uint64_t *table, size_t table_len, const uint8_t *bytes, size_t bytes_len,
+                         uint64_t low, uint64_t high, uint32_t first, uint32_t end, uint32_t *found, size_t found_len,
+                         uint64_t refusal[2]);
+
+#ifdef __cplusplus
+}
+#endif
+
+#endif

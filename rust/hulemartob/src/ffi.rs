@@ -1,0 +1,127 @@
+//! The functions of the static library, each behind a safe one. No other file of this crate has unsafe code.
+//!
+//! A slice passes as a pointer and a length, an array as a pointer. The library's functions are total: whatever is behind the
+//! pointers, they read and write only inside them, and end. They ask of a caller what Rust asks of a reference, so that each block
+//! below has the same reason: every pointer comes from a reference that lives through the call, with its own length beside it, and
+//! what is lent as `&mut` is lent to nothing else.
+
+use crate::Refusal;
+
+unsafe extern "C" {
+    fn hulemartob_column_stats(values: *const u64, values_len: usize, stats: *mut [u64; 4], refusal: *mut [u64; 2]);
+
+    fn hulemartob_serialize(
+        values: *const u64,
+        values_len: usize,
+        codecs: *const u8,
+        codecs_len: usize,
+        out: *mut u8,
+        out_len: usize,
+        refusal: *mut [u64; 2],
+    ) -> usize;
+
+    fn hulemartob_open(
+        bytes: *const u8,
+        bytes_len: usize,
+        table: *mut u64,
+        table_len: usize,
+        column: *mut [u64; 10],
+        refusal: *mut [u64; 2],
+    );
+
+    fn hulemartob_row(
+        column: *const [u64; 10],
+        table: *const u64,
+        table_len: usize,
+        bytes: *const u8,
+        bytes_len: usize,
+        row: u32,
+        refusal: *mut [u64; 2],
+    ) -> u64;
+
+    fn hulemartob_lookup(
+        column: *const [u64; 10],
+        table: *const u64,
+        table_len: usize,
+        bytes: *const u8,
+        bytes_len: usize,
+        low: u64,
+        high: u64,
+        first: u32,
+        end: u32,
+        found: *mut u32,
+        found_len: usize,
+        refusal: *mut [u64; 2],
+    ) -> usize;
+}
+
+/// What a call answered, by the two numbers of its refusal.
+fn answer<T>(refusal: [u64; 2], value: T) -> Result<T, Refusal> {
+    let [number, also] = refusal;
+    if number == 0 { Ok(value) } else { Err(Refusal { number: number as u8, value: also }) }
+}
+
+/// Minimum, maximum, gcd and rows.
+pub(crate) fn column_stats(values: &[u64]) -> Result<[u64; 4], Refusal> {
+    let (mut stats, mut refusal) = ([0; 4], [0; 2]);
+    // SAFETY: see the top of this file.
+    unsafe { hulemartob_column_stats(values.as_ptr(), values.len(), &mut stats, &mut refusal) };
+    answer(refusal, stats)
+}
+
+/// The length of the column that now stands in `out`.
+pub(crate) fn serialize(values: &[u64], codecs: &[u8], out: &mut [u8]) -> Result<usize, Refusal> {
+    let mut refusal = [0; 2];
+    // SAFETY: see the top of this file.
+    let length = unsafe {
+        hulemartob_serialize(values.as_ptr(), values.len(), codecs.as_ptr(), codecs.len(), out.as_mut_ptr(), out.len(), &mut refusal)
+    };
+    answer(refusal, length)
+}
+
+/// The ten numbers of an opened column; `table` has its blocks.
+pub(crate) fn open(bytes: &[u8], table: &mut [u64]) -> Result<[u64; 10], Refusal> {
+    let (mut column, mut refusal) = ([0; 10], [0; 2]);
+    // SAFETY: see the top of this file.
+    unsafe { hulemartob_open(bytes.as_ptr(), bytes.len(), table.as_mut_ptr(), table.len(), &mut column, &mut refusal) };
+    answer(refusal, column)
+}
+
+/// The value of a row.
+#[inline]
+pub(crate) fn row(column: &[u64; 10], table: &[u64], bytes: &[u8], row: u32) -> Result<u64, Refusal> {
+    let mut refusal = [0; 2];
+    // SAFETY: see the top of this file.
+    let value = unsafe { hulemartob_row(column, table.as_ptr(), table.len(), bytes.as_ptr(), bytes.len(), row, &mut refusal) };
+    answer(refusal, value)
+}
+
+/// How many rows of `rows` have a value from `low` to `high`; `found` has them.
+pub(crate) fn lookup(
+    column: &[u64; 10],
+    table: &[u64],
+    bytes: &[u8],
+    (low, high): (u64, u64),
+    (first, end): (u32, u32),
+    found: &mut [u32],
+) -> Result<usize, Refusal> {
+    let mut refusal = [0; 2];
+    // SAFETY: see the top of this file.
+    let many = unsafe {
+        hulemartob_lookup(
+            column,
+            table.as_ptr(),
+            table.len(),
+            bytes.as_ptr(),
+            bytes.len(),
+            low,
+            high,
+            first,
+            end,
+            found.as_mut_ptr(),
+            found.len(),
+            &mut refusal,
+        )
+    };
+    answer(refusal, many)
+}

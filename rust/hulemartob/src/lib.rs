@@ -1,0 +1,194 @@
+//! Columns of 64-bit numbers in the format of tantivy-columnar 0.27.0 (`u64_based`), written and read by a library that is proved:
+//! every call ends, never fails but by a numbered [`Refusal`], and answers exactly what the format says, damaged columns included.
+//!
+//! ```
+//! use hulemartob::{Codec, Column, serialize};
+//!
+//! let bytes = serialize(&[10, 30, 20], &Codec::ALL)?;
+//! let column = Column::open(&bytes)?;
+//! assert_eq!(column.row(1)?, 30);
+//! assert_eq!(column.lookup(10..=25, 0..column.rows())?, [0, 2]);
+//! # Ok::<(), hulemartob::Refusal>(())
+//! ```
+//!
+//! The code here passes numbers on to the static library of the crate `column_c`, and makes room for what it answers; nothing of the
+//! format is decided in Rust. The library is compiled for x86-64.
+
+#[cfg(not(all(target_arch = "x86_64", target_pointer_width = "64")))]
+compile_error!("libcolumn_c.a is x86-64 code");
+
+mod ffi;
+mod refusal;
+
+use std::ops::{Range, RangeInclusive};
+
+pub use refusal::Refusal;
+
+/// Rows in a block of a Blockwise column.
+const BLOCK: usize = 512;
+
+/// How a column's rows are coded. The numbers are those of a column's first byte.
+#[derive(Clone, Copy, Debug, PartialEq, Eq, Hash)]
+#[repr(u8)]
+pub enum Codec {
+    /// Multiples of the gcd above the minimum.
+    Bitpacked = 0,
+    /// What the rows have above one line. It applies from 512 rows on.
+    Linear = 1,
+    /// What the rows have above a line for each block of 512 rows.
+    BlockwiseLinear = 2,
+}
+
+impl Codec {
+    /// All three, in the order of their numbers.
+    pub const ALL: [Codec; 3] = [Codec::Bitpacked, Codec::Linear, Codec::BlockwiseLinear];
+}
+
+/// Statistics of a list of values.
+#[derive(Clone, Copy, Debug, PartialEq, Eq, Hash)]
+pub struct ColumnStats {
+    /// The least value, 0 where there is none.
+    pub minimum: u64,
+    /// The greatest value, 0 where there is none.
+    pub maximum: u64,
+    /// The gcd of the differences from the first value, 1 where all of them are 0.
+    pub gcd: u64,
+    /// How many values there are.
+    pub rows: u32,
+}
+
+/// The statistics of a list. Refused 1.
+pub fn column_stats(values: &[u64]) -> Result<ColumnStats, Refusal> {
+    let [minimum, maximum, gcd, rows] = ffi::column_stats(values)?;
+    Ok(ColumnStats { minimum, maximum, gcd, rows: rows as u32 })
+}
+
+/// The most bytes that a column of so many rows can have, whatever its codec: code byte, head, a line and a width byte for each block, a
+/// footer's length, and at most eight bytes a row.
+pub fn most_bytes(rows: usize) -> usize {
+    let varint = 10;
+    let fixed = 1 + 4 * varint + 4;
+    rows.div_ceil(BLOCK).max(1) * (2 * varint + 1) + 8 * rows + fixed
+}
+
+/// Writes a list as a column by that of the listed codecs whose size is least, and returns its bytes. Refused 1 and 3.
+pub fn serialize(values: &[u64], codecs: &[Codec]) -> Result<Vec<u8>, Refusal> {
+    let codecs: Vec<u8> = codecs.iter().map(|&codec| codec as u8).collect();
+    let mut out = vec![0; most_bytes(values.len())];
+    let length = serialize_into(values, &codecs, &mut out)?;
+    out.truncate(length);
+    out.shrink_to_fit();
+    Ok(out)
+}
+
+/// Writes a list as a column into `out` and returns the column's length; the bytes behind it stay as they are. The codecs are code bytes.
+/// Refused 1 to 4.
+pub fn serialize_into(values: &[u64], codecs: &[u8], out: &mut [u8]) -> Result<usize, Refusal> {
+    ffi::serialize(values, codecs, out)
+}
+
+/// Opens a column: [`Column::open`].
+pub fn open(bytes: &[u8]) -> Result<Column<'_>, Refusal> {
+    Column::open(bytes)
+}
+
+/// An opened column: its bytes, its ten numbers, and its block table.
+#[derive(Clone, Debug, PartialEq, Eq)]
+pub struct Column<'a> {
+    bytes: &'a [u8],
+    numbers: [u64; 10],
+    table: Vec<u64>,
+}
+
+impl<'a> Column<'a> {
+    /// Opens the column that `bytes` hold. Refused 5 to 10.
+    pub fn open(bytes: &'a [u8]) -> Result<Column<'a>, Refusal> {
+        let mut table = Vec::new();
+        let numbers = match ffi::open(bytes, &mut table) {
+            // Zeroed memory is handed out as it is touched, and opening touches the table only once the column is known to be sound. So
+            // a damaged column of a few bytes that claims 2^32 rows costs nothing here.
+            Err(Refusal { number: 11, value: blocks }) => {
+                table = vec![0; 4 * blocks as usize];
+                ffi::open(bytes, &mut table)?
+            }
+            answer => answer?,
+        };
+        Ok(Column { bytes, numbers, table })
+    }
+
+    /// A column of any numbers and any table: codec, minimum, gcd, count, rows, start and size of the packed area; slope, intercept and
+    /// width of a Linear column, else 0. Four numbers a block in the table: slope, intercept, width, start. What does not belong together
+    /// is refused 13 as it is read.
+    pub fn from_parts(bytes: &'a [u8], numbers: [u64; 10], table: Vec<u64>) -> Column<'a> {
+        Column { bytes, numbers, table }
+    }
+
+    /// The ten numbers, as [`Column::from_parts`] takes them.
+    pub fn numbers(&self) -> &[u64; 10] {
+        &self.numbers
+    }
+
+    /// The block table, four numbers a block; empty unless the column is Blockwise.
+    pub fn table(&self) -> &[u64] {
+        &self.table
+    }
+
+    /// The bytes that hold the column.
+    pub fn bytes(&self) -> &'a [u8] {
+        self.bytes
+    }
+
+    /// The codec; none if the column was made of parts with another number there.
+    pub fn codec(&self) -> Option<Codec> {
+        Codec::ALL.into_iter().find(|&codec| u64::from(codec as u8) == self.numbers[0])
+    }
+
+    /// The least value that the head states.
+    pub fn min_value(&self) -> u64 {
+        self.numbers[1]
+    }
+
+    /// The greatest value that the head states: minimum + gcd · count. It fits in every column that was opened.
+    pub fn max_value(&self) -> u64 {
+        self.numbers[1].wrapping_add(self.numbers[2].wrapping_mul(self.numbers[3]))
+    }
+
+    /// What all values' distances from the minimum are multiples of.
+    pub fn gcd(&self) -> u64 {
+        self.numbers[2]
+    }
+
+    /// How many rows the column has. It fits in every column that was opened.
+    pub fn rows(&self) -> u32 {
+        self.numbers[4] as u32
+    }
+
+    /// The value of a row. Refused 12 to 14; 13 only for a column made of parts.
+    #[inline]
+    pub fn row(&self, row: u32) -> Result<u64, Refusal> {
+        ffi::row(&self.numbers, &self.table, self.bytes, row)
+    }
+
+    /// The rows of a run whose value lies in a range, ascending. The run's end is cut to the column's rows. The first row of the run that
+    /// [`Column::row`] refuses decides, whatever the range is. Refused 13 and 14.
+    pub fn lookup(&self, values: RangeInclusive<u64>, rows: Range<u32>) -> Result<Vec<u32>, Refusal> {
+        let run = rows.end.min(self.rows()).saturating_sub(rows.start) as usize;
+        // Room for a page of rows first. If more are found, the refusal tells how many.
+        let mut found = vec![0; run.min(1024)];
+        let many = match self.lookup_into(values.clone(), rows.clone(), &mut found) {
+            Err(Refusal { number: 15, value: many }) => {
+                found = vec![0; many as usize];
+                self.lookup_into(values, rows, &mut found)?
+            }
+            answer => answer?,
+        };
+        found.truncate(many);
+        Ok(found)
+    }
+
+    /// The same, into a lent list: how many rows were found, which are now its first entries. Refused 13 to 15.
+    pub fn lookup_into(&self, values: RangeInclusive<u64>, rows: Range<u32>, found: &mut [u32]) -> Result<usize, Refusal> {
+        let bounds = (*values.start(), *values.end());
+        ffi::lookup(&self.numbers, &self.table, self.bytes, bounds, (rows.start, rows.end), found)
+    }
+}

@@ -1,0 +1,241 @@
+//! Holds the library beside the Rust of tantivy-columnar 0.27.0 on generated lists and on damaged copies of their columns:
+//!
+//!     compare [LISTS [SEED]]
+//!
+//! What both answer alike is counted. Every difference is put under its cause, with the smallest input met; one without a cause is an error.
+
+mod lists;
+mod rust;
+mod tally;
+
+use std::process::ExitCode;
+
+use hulemartob::{Column, Refusal, column_stats, most_bytes, serialize_into};
+use lists::Random;
+use tally::{Cause, Tally};
+
+const LISTS: [&[u8]; 11] = [&[0], &[1], &[2], &[0, 1, 2], &[2, 1, 0], &[2, 0, 0], &[1, 2], &[0, 2], &[2, 0], &[1, 0], &[]];
+const BITPACKED: u64 = 0;
+const LINEAR: u64 = 1;
+const BLOCKWISE: u64 = 2;
+
+/// So many rows of a damaged column are read at most: it may claim 2^32 of them.
+const READ: u32 = 1800;
+
+fn hex(bytes: &[u8]) -> String {
+    bytes.iter().map(|byte| format!("{byte:02x}")).collect()
+}
+
+fn compare_statistics(tally: &mut Tally, values: &[u64]) {
+    let ours = column_stats(values).map(|s| (s.minimum, s.maximum, s.gcd, s.rows));
+    let theirs = columnar::stats(values);
+    if ours == Ok((theirs.min_value, theirs.max_value, theirs.gcd.get(), theirs.num_rows)) {
+        tally.alike("statistics", 1);
+    } else {
+        tally.differ("statistics", None, values.len(), || format!("{values:?}"));
+    }
+}
+
+/// Writing, into an output that is just long enough; and into one that is a byte too short, which has to stay as it is.
+fn write(tally: &mut Tally, values: &[u64], codecs: &[u8]) -> Result<Vec<u8>, Refusal> {
+    let mut out = vec![0xA5; most_bytes(values.len())];
+    let length = serialize_into(values, codecs, &mut out)?;
+    let behind_kept = out[length..].iter().all(|&byte| byte == 0xA5);
+    out.truncate(length);
+    let mut short = vec![0xA5; length - 1];
+    let refusal = serialize_into(values, codecs, &mut short);
+    let kept = refusal == Err(Refusal { number: 4, value: length as u64 }) && short.iter().all(|&byte| byte == 0xA5);
+    if behind_kept && kept {
+        tally.alike("outputs too short refused, with nothing else changed", 1);
+    } else {
+        tally.differ("output", None, values.len(), || format!("codecs {codecs:?}, {values:?}"));
+    }
+    Ok(out)
+}
+
+/// Whether the choice differs because the crate takes the saving in f32: with whole numbers its own sizes choose our codec, and its bytes by
+/// that codec are ours.
+fn chosen_by_whole_numbers(values: &[u64], codecs: &[u8], ours: &[u8]) -> bool {
+    let sizes = columnar::sizes_by_whole_numbers(values, &rust::codec_types(codecs));
+    let sized = codecs.iter().zip(sizes).filter_map(|(&codec, size)| Some((size?, codec)));
+    let chosen = sized.min_by_key(|&(size, _)| size).map(|(_, codec)| codec);
+    chosen == Some(ours[0]) && rust::write(values, &ours[..1]).as_deref() == Ok(ours)
+}
+
+fn compare_writing(tally: &mut Tally, values: &[u64], codecs: &[u8]) -> Option<Vec<u8>> {
+    let theirs = rust::write(values, codecs);
+    match (write(tally, values, codecs), theirs) {
+        (Ok(ours), Ok(theirs)) if ours == theirs => {
+            tally.alike(format!("columns written, codec {}", ours[0]), 1);
+            return Some(ours);
+        }
+        (Ok(ours), Ok(theirs)) if ours[0] != theirs[0] && chosen_by_whole_numbers(values, codecs, &ours) => {
+            tally.differ("choice", Some(Cause::SavingInF32), values.len(), || format!("codecs {codecs:?}, {values:?}"));
+            return Some(ours);
+        }
+        (Err(Refusal { number: 3, value: 0 }), Err(rust::Failed::Error)) => tally.alike("lists that no listed codec takes", 1),
+        _ => tally.differ("writing", None, values.len(), || format!("codecs {codecs:?}, {values:?}")),
+    }
+    None
+}
+
+/// The four numbers of a head and the offset behind them.
+fn head(bytes: &[u8]) -> Option<([u64; 4], usize)> {
+    let (mut numbers, mut at) = ([0; 4], 1);
+    for number in &mut numbers {
+        let length = 1 + bytes.get(at..)?.iter().position(|&byte| byte >= 128)?;
+        for &byte in bytes[at..at + length].iter().rev() {
+            *number = *number << 7 | u64::from(byte % 128);
+        }
+        at += length;
+    }
+    Some((numbers, at))
+}
+
+/// Why the Rust opens a column that is refused here.
+fn cause_of_opening(bytes: &[u8], refusal: Refusal) -> Option<Cause> {
+    let codec = u64::from(bytes[0]);
+    let ([minimum, gcd, count, rows], next) = head(bytes)?;
+    let greatest = u128::from(minimum) + u128::from(gcd) * u128::from(count);
+    let footer = || {
+        let (rest, long) = bytes.split_last_chunk::<4>()?;
+        rest.len().checked_sub(u32::from_le_bytes(*long) as usize).filter(|&footer| next <= footer)
+    };
+    match refusal.number {
+        8 if greatest >> 64 != 0 => Some(Cause::BoundsWrap),
+        8 if rows >> 32 != 0 => Some(Cause::RowsCut),
+        10 if codec != BLOCKWISE => Some(Cause::AreaShort),
+        10 if footer().is_some() => Some(Cause::AreaIntoFooter),
+        6 if codec == BLOCKWISE && (footer()?..bytes.len() - 3).contains(&(refusal.value as usize)) => Some(Cause::FieldsPastFooter),
+        _ => None,
+    }
+}
+
+/// Why the Rust answers a row that is refused here.
+fn cause_of_row(column: &Column, row: u32, ours: Result<u64, Refusal>, theirs: Result<u64, rust::Failed>) -> Option<Cause> {
+    let inside = |value| (column.min_value()..=column.max_value()).contains(&value);
+    match (ours, theirs) {
+        (Err(Refusal { number: 14, value }), Ok(answer)) if value == u64::from(row) => {
+            // The other two multiply by the gcd modulo 2^64, which may lead back inside.
+            let outside = column.numbers()[0] != LINEAR || !inside(answer);
+            outside.then_some(Cause::OutsideBounds)
+        }
+        _ => None,
+    }
+}
+
+fn compare_rows(tally: &mut Tally, column: &Column, theirs: &rust::Opened) {
+    let rows = column.rows().min(READ);
+    let bytes = column.bytes();
+    let mut answers = Vec::new();
+    for row in 0..rows {
+        let (ours, theirs) = (column.row(row), theirs.row(row));
+        if ours.is_ok() && ours.ok() == theirs.ok() {
+            answers.extend(ours);
+        } else {
+            let cause = cause_of_row(column, row, ours, theirs);
+            tally.differ("row", cause, bytes.len(), || format!("{} row {row}: {ours:?}, {theirs:?}", hex(bytes)));
+        }
+    }
+    tally.alike("rows", answers.len());
+    if answers.len() == rows as usize && theirs.run(rows).as_deref() != Ok(&answers) {
+        tally.differ("run of rows", None, bytes.len(), || hex(bytes));
+    }
+    if column.row(column.rows()) != Err(Refusal { number: 12, value: 0 }) {
+        tally.differ("row behind the last", None, bytes.len(), || hex(bytes));
+    }
+}
+
+fn compare_lookup(tally: &mut Tally, column: &Column, theirs: &rust::Opened, (low, high): (u64, u64), (first, end): (u32, u32)) {
+    let ours = column.lookup(low..=high, first..end);
+    let theirs = theirs.find(low..=high, first..end);
+    let bitpacked = column.numbers()[0] == BITPACKED;
+    let cause = match &ours {
+        Ok(found) if theirs.as_ref() == Ok(found) => return tally.alike("lookups", 1),
+        Err(Refusal { number: 14, .. }) => Some(Cause::OutsideBounds),
+        Ok(_) if bitpacked && low <= high && high < column.min_value() => Some(Cause::BelowMinimum),
+        Ok(_) if bitpacked && end > column.rows() => Some(Cause::EndNotCut),
+        _ => None,
+    };
+    let bytes = column.bytes();
+    tally.differ("lookup", cause, bytes.len(), || format!("{} {low} to {high}, rows {first} to {end}: {ours:?}, {theirs:?}", hex(bytes)));
+}
+
+fn compare_lookups(tally: &mut Tally, random: &mut Random, column: &Column, theirs: &rust::Opened, values: &[u64]) {
+    let rows = column.rows().min(READ);
+    for _ in 0..3 {
+        let any = random.below(rows as usize + 1) as u32;
+        let first = random.pick(&[0, 0, any, u32::MAX]);
+        let end = random.pick(&[rows, rows, any, (column.rows() <= READ) as u32 * 3 + rows]);
+        compare_lookup(tally, column, theirs, lists::range(random, values), (first, end));
+    }
+}
+
+fn compare_column(tally: &mut Tally, random: &mut Random, bytes: &[u8], values: &[u64], whose: &str) {
+    match (Column::open(bytes), rust::open(bytes)) {
+        (Ok(column), Ok(theirs)) => {
+            if theirs.head() != (column.min_value(), column.max_value(), column.rows()) {
+                return tally.differ("head", None, bytes.len(), || hex(bytes));
+            }
+            tally.alike(format!("{whose} columns opened"), 1);
+            compare_rows(tally, &column, &theirs);
+            compare_lookups(tally, random, &column, &theirs, values);
+        }
+        (Err(refusal), Err(failed)) => {
+            let how = if failed == rust::Failed::Panic { "a panic" } else { "an error" };
+            tally.alike(format!("{whose} columns that neither opens: {} here, {how} there", refusal.number), 1);
+        }
+        (Err(refusal), Ok(_)) => {
+            tally.differ("opening", cause_of_opening(bytes, refusal), bytes.len(), || format!("{}: {refusal:?}", hex(bytes)));
+        }
+        (Ok(_), Err(failed)) => tally.differ("opening", None, bytes.len(), || format!("{} opens here, {failed:?}", hex(bytes))),
+    }
+}
+
+fn compare_list(tally: &mut Tally, random: &mut Random, values: &[u64]) {
+    compare_statistics(tally, values);
+    if ties(values) {
+        tally.alike("lists on which two sizes tie, written by every list of codecs", 1);
+        LISTS.iter().for_each(|codecs| _ = compare_writing(tally, values, codecs));
+    }
+    let choice = 3 + random.below(LISTS.len() - 3);
+    for codecs in LISTS[..3].iter().chain([&LISTS[choice]]) {
+        let Some(column) = compare_writing(tally, values, codecs) else { continue };
+        if codecs.len() > 1 {
+            continue;
+        }
+        compare_column(tally, random, &column, values, "written");
+        for _ in 0..4 {
+            let damaged = lists::damaged(random, &column);
+            compare_column(tally, random, &damaged, values, "damaged");
+        }
+    }
+}
+
+/// Whether two of the codecs take the same size, so that the order of the list decides.
+fn ties(values: &[u64]) -> bool {
+    let sizes = columnar::sizes_by_whole_numbers(values, &rust::codec_types(&[0, 1, 2]));
+    let applying: Vec<u64> = sizes.into_iter().flatten().collect();
+    applying.iter().enumerate().any(|(i, size)| applying[..i].contains(size))
+}
+
+/// The smallest inputs of docs/DIFFERENCES.md on which the choice differs, which a generated list meets too seldom.
+fn lists_of_note() -> [(Vec<u64>, &'static [u8]); 2] {
+    [(vec![0, u64::MAX], &[2, 0]), ((0..7).rev().map(|i| 2_097_151 * i).collect(), &[0, 2])]
+}
+
+fn main() -> ExitCode {
+    let mut words = std::env::args().skip(1).map(|word| word.parse().expect("compare [LISTS [SEED]]: whole numbers"));
+    let (many, seed) = (words.next().unwrap_or(10_000), words.next().unwrap_or(1));
+    std::panic::set_hook(Box::new(|_| {}));
+    let (mut tally, mut random) = (Tally::default(), Random::new(seed));
+    for (values, codecs) in lists_of_note() {
+        compare_writing(&mut tally, &values, codecs);
+    }
+    for turn in 0..many {
+        let values = lists::list(&mut random, turn as usize % lists::KINDS);
+        compare_list(&mut tally, &mut random, &values);
+    }
+    println!("{many} lists of {} kinds, seed {seed}", lists::KINDS);
+    if tally.report() { ExitCode::SUCCESS } else { ExitCode::FAILURE }
+}
