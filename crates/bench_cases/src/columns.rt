@@ -1,0 +1,190 @@
+// The records OPEN and MADE: a column that is opened or put together, and then asked. Each function is told the record's place and its end.
+use crate::answers::Outcome;
+use crate::answers::nothing_asked;
+use crate::answers::refused;
+use crate::answers::success;
+use crate::lent::NUMBER;
+use crate::lent::numbers_kept;
+use crate::lent::numbers_stored;
+use crate::reading::ask;
+use crate::words::after;
+use crate::words::bytes_at;
+use crate::words::count_at;
+use crate::words::half_at;
+use crate::words::take_words;
+use crate::words::word_at;
+use crate::words::words_for;
+use format::Codec;
+use format::Column;
+use format::Line;
+use format::Opened;
+
+// The longest table that is lent.
+const TABLE: usize = 64;
+
+// A codec's number, and the numbers that only Linear has.
+struct Numbers {
+    code: u64,
+    slope: u64,
+    intercept: u64,
+    bits: u64,
+}
+
+// The place of the column's bytes, behind the table.
+fn bytes_place(file: &[u8], at: usize) -> usize {
+    after(after(at, 18), count_at(file, after(at, 14)))
+}
+
+// The column's bytes. A record that has not all of them has its questions behind its end, and differs by that.
+fn column_bytes(file: &[u8], at: usize) -> &[u8] {
+    bytes_at(file, bytes_place(file, at), count_at(file, after(at, 15)))
+}
+
+// The place of the questions, behind the bytes.
+fn asked_place(file: &[u8], at: usize) -> usize {
+    after(
+        bytes_place(file, at),
+        words_for(count_at(file, after(at, 15))),
+    )
+}
+
+// A codec's own numbers.
+fn own_numbers(codec: Codec) -> Numbers {
+    match codec {
+        Codec::Bitpacked => Numbers {
+            code: 0,
+            slope: 0,
+            intercept: 0,
+            bits: 0,
+        },
+        Codec::Linear(line, bits) => Numbers {
+            code: 1,
+            slope: line.slope,
+            intercept: line.intercept,
+            bits: word::wide(bits),
+        },
+        Codec::Blockwise => Numbers {
+            code: 2,
+            slope: 0,
+            intercept: 0,
+            bits: 0,
+        },
+    }
+}
+
+// Whether a column's ten numbers are those that the record has.
+fn column_stored(column: Column, file: &[u8], at: usize) -> bool {
+    let codec = column.codec;
+    let own = own_numbers(codec);
+    let rows = column.rows as u64;
+    let start = column.start as u64;
+    let size = column.size as u64;
+    let numbers = [
+        own.code,
+        column.minimum,
+        column.gcd,
+        column.count,
+        rows,
+        start,
+        size,
+        own.slope,
+        own.intercept,
+        own.bits,
+    ];
+    numbers_stored(&numbers, 10, file, after(at, 4))
+}
+
+// The codec that the record has; Linear with its own numbers.
+fn codec_at(file: &[u8], at: usize) -> Codec {
+    match word_at(file, after(at, 4)) {
+        0 => Codec::Bitpacked,
+        1 => Codec::Linear(
+            Line {
+                slope: word_at(file, after(at, 11)),
+                intercept: word_at(file, after(at, 12)),
+            },
+            (word_at(file, after(at, 13)) % 256) as u8,
+        ),
+        _ => Codec::Blockwise,
+    }
+}
+
+// The column that the record's numbers make.
+fn column_at(file: &[u8], at: usize) -> Column {
+    Column {
+        minimum: word_at(file, after(at, 5)),
+        gcd: word_at(file, after(at, 6)),
+        count: word_at(file, after(at, 7)),
+        rows: half_at(file, after(at, 8)),
+        start: word_at(file, after(at, 9)) as usize,
+        size: word_at(file, after(at, 10)) as usize,
+        codec: codec_at(file, at),
+    }
+}
+
+// Whether the table is what the record has of it, and as it was behind that.
+fn table_stored(table: &[u64], file: &[u8], at: usize) -> bool {
+    let count = count_at(file, after(at, 14));
+    numbers_stored(table, count, file, after(at, 18)) && numbers_kept(table, count)
+}
+
+// Whether the record has no column: its numbers, the length of its table and how much it asks are 0.
+fn nothing_stored(file: &[u8], at: usize) -> bool {
+    let none = [0; 11];
+    numbers_stored(&none, 11, file, after(at, 4)) && numbers_stored(&none, 2, file, after(at, 16))
+}
+
+// Opens the bytes into a table of marks, and asks the column.
+fn opened_alike(bytes: &[u8], table: &mut [u64], file: &[u8], at: usize, end: usize) -> Outcome {
+    let from = asked_place(file, at);
+    match u64_based::open(bytes, table) {
+        Opened::Column(column) => {
+            if !success().is_stored(file, after(at, 2)) {
+                return nothing_asked(false);
+            }
+            if !column_stored(column, file, at) {
+                return nothing_asked(false);
+            }
+            if !table_stored(table, file, at) {
+                return nothing_asked(false);
+            }
+            ask(column, table, bytes, file, at, from, end)
+        }
+        Opened::Refused(why) => nothing_asked(
+            refused(why).is_stored(file, after(at, 2))
+                && nothing_stored(file, at)
+                && numbers_kept(table, 0)
+                && from == end,
+        ),
+    }
+}
+
+// Asks the column of the record's own numbers.
+fn made_alike(bytes: &[u8], table: &mut [u64], file: &[u8], at: usize, end: usize) -> Outcome {
+    let column = column_at(file, at);
+    if !column_stored(column, file, at) {
+        return nothing_asked(false);
+    }
+    take_words(file, after(at, 18), table);
+    ask(column, table, bytes, file, at, asked_place(file, at), end)
+}
+
+// A record OPEN.
+pub fn open(file: &[u8], at: usize, end: usize) -> Outcome {
+    let room = count_at(file, after(at, 1));
+    if TABLE < room {
+        return nothing_asked(false);
+    }
+    let mut table = [NUMBER; TABLE];
+    opened_alike(column_bytes(file, at), &mut table[..room], file, at, end)
+}
+
+// A record MADE. Its table is as long as it is filled.
+pub fn made(file: &[u8], at: usize, end: usize) -> Outcome {
+    let room = count_at(file, after(at, 14));
+    if TABLE < room {
+        return nothing_asked(false);
+    }
+    let mut table = [NUMBER; TABLE];
+    made_alike(column_bytes(file, at), &mut table[..room], file, at, end)
+}

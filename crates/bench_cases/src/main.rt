@@ -1,0 +1,158 @@
+// Replays the case files: asks every call what they ask, compares all that it answers and all that it may change, and prints what was run and what
+// differs. tools/answers/README.md says how the files are laid out and where their answers come from.
+mod answers;
+mod columns;
+mod lent;
+mod lists;
+mod reading;
+mod words;
+
+ghost use Prim.Native.Nat.{_≤_};
+use answers::Outcome;
+use answers::nothing_asked;
+use libc::STDOUT_FILENO;
+use words::word_at;
+use words::words_for;
+
+// What was run, and how many records differ.
+struct Tally {
+    records: u64,
+    rows: u64,
+    lookups: u64,
+    back: u64,
+    differ: u64,
+}
+
+impl Tally {
+    // Nothing yet.
+    fn new() -> Self {
+        Self {
+            records: 0,
+            rows: 0,
+            lookups: 0,
+            back: 0,
+            differ: 0,
+        }
+    }
+
+    // With one more record.
+    fn with(self, o: Outcome) -> Self {
+        Self {
+            records: word::add(self.records, 1),
+            rows: word::add(self.rows, o.rows as u64),
+            lookups: word::add(self.lookups, o.lookups as u64),
+            back: word::add(self.back, o.back as u64),
+            differ: if o.alike {
+                self.differ
+            } else {
+                word::add(self.differ, 1)
+            },
+        }
+    }
+
+    // Both together.
+    fn plus(self, other: Self) -> Self {
+        Self {
+            records: word::add(self.records, other.records),
+            rows: word::add(self.rows, other.rows),
+            lookups: word::add(self.lookups, other.lookups),
+            back: word::add(self.back, other.back),
+            differ: word::add(self.differ, other.differ),
+        }
+    }
+}
+
+// Writes a text.
+fn put(text: &[u8]) {
+    io::write_all(STDOUT_FILENO, text);
+}
+
+// Writes a count, and what it counts.
+fn put_count(count: u64, of: &[u8]) {
+    io::print_decimal(STDOUT_FILENO, count);
+    put(of);
+}
+
+// Asks the record at a place, which ends before another. Byte 0 of its first word says what it is.
+fn record(file: &[u8], at: usize, end: usize) -> Outcome {
+    match word_at(file, at) % 256 {
+        1 => lists::list(file, at, end),
+        2 => columns::open(file, at, end),
+        3 => columns::made(file, at, end),
+        _ => nothing_asked(false),
+    }
+}
+
+// Names a record that differs, by its index in the file.
+fn report(name: &[u8], index: u64, outcome: Outcome) {
+    if outcome.alike {
+        return;
+    }
+    put(name);
+    put(b": record ");
+    put_count(index, b" differs\n");
+}
+
+// The length in words of the record at a place, from its first word's upper half, which has it in bytes; 0 where that is more than there is left.
+fn length_at(file: &[u8], at: usize, left: usize) -> usize
+    ensures { λ r. ⌜ r ≤ left ⌝ }
+{
+    let length = (word_at(file, at) >> 35) as usize;
+    if left < length { 0 } else { length }
+}
+
+// Asks the records of a file, one behind the other. A record without a length differs, and is the last.
+fn replay(name: &[u8], file: &[u8]) -> Tally {
+    let words = words_for(file.len());
+    let mut tally = Tally::new();
+    let mut at = 0;
+    while at < words {
+        let length = length_at(file, at, words - at);
+        if length == 0 {
+            report(name, tally.records, nothing_asked(false));
+            return tally.with(nothing_asked(false));
+        }
+        let outcome = record(file, at, at + length);
+        report(name, tally.records, outcome);
+        tally = tally.with(outcome);
+        at += length;
+    }
+    tally
+}
+
+// Replays a file and prints its line. One that is not there counts as a record that differs.
+fn replay_file(name: &[u8]) -> Tally {
+    let fd = os::open_read(name);
+    if fd < 0 {
+        put(name);
+        put(b": not opened\n");
+        return Tally::new().with(nothing_asked(false));
+    }
+    let mut file = io::large_buffer();
+    let n = io::read_full(fd, &mut file);
+    libc::close(fd);
+    let tally = replay(name, &file[..n]);
+    put(name);
+    put(b": ");
+    put_count(tally.records, b" records, ");
+    put_count(tally.differ, b" differ\n");
+    tally
+}
+
+fn main() {
+    let writing = replay_file(b"bench.cases")
+        .plus(replay_file(b"shapes.cases"))
+        .plus(replay_file(b"widths.cases"));
+    let opening = replay_file(b"cut.cases")
+        .plus(replay_file(b"changed.cases"))
+        .plus(replay_file(b"fields.cases"))
+        .plus(replay_file(b"bounds.cases"));
+    let reading = replay_file(b"made.cases").plus(replay_file(b"lookup.cases"));
+    let total = writing.plus(opening).plus(reading);
+    put(b"all: ");
+    put_count(total.records, b" records, ");
+    put_count(total.rows, b" rows, ");
+    put_count(total.lookups, b" lookups, ");
+    put_count(total.back, b" rows written and read back, ");
+    put_count(total.differ, b" differ\n");
+}

@@ -1,0 +1,128 @@
+// The questions to a column: rows, and lookups.
+use crate::answers::Outcome;
+use crate::answers::of_row;
+use crate::answers::refused;
+use crate::answers::success;
+use crate::lent::ROW;
+use crate::lent::rows_kept;
+use crate::lent::rows_stored;
+use crate::words::after;
+use crate::words::count_at;
+use crate::words::half_at;
+use crate::words::word_at;
+use format::Column;
+use format::ColumnRow;
+use format::Found;
+
+// How many questions were answered as stored, and the place behind them.
+struct Walk {
+    asked: usize,
+    at: usize,
+}
+
+// Whether the row at a place is answered as stored.
+fn row_alike(column: Column, table: &[u64], bytes: &[u8], file: &[u8], at: usize) -> bool {
+    let row = ColumnRow(half_at(file, at));
+    of_row(u64_based::row(column, table, bytes, row)).is_stored(file, after(at, 1))
+}
+
+// Asks so many rows, up to the first that is answered otherwise.
+fn ask_rows(
+    column: Column,
+    table: &[u64],
+    bytes: &[u8],
+    file: &[u8],
+    from: usize,
+    count: usize,
+) -> Walk {
+    let mut asked = 0;
+    let mut at = from;
+    while asked < count {
+        if !row_alike(column, table, bytes, file, at) {
+            break;
+        }
+        asked += 1;
+        at = after(at, 3);
+    }
+    Walk { asked, at }
+}
+
+// Whether the lookup at a place, into a list of marks, is answered as stored.
+fn found_alike(
+    column: Column,
+    table: &[u64],
+    bytes: &[u8],
+    file: &[u8],
+    at: usize,
+    found: &mut [u32],
+) -> bool {
+    let low = word_at(file, at);
+    let high = word_at(file, after(at, 1));
+    let first = half_at(file, after(at, 2));
+    let end = half_at(file, after(at, 3));
+    let stored = count_at(file, after(at, 7));
+    match u64_based::lookup(column, table, bytes, low, high, first, end, found) {
+        Found::Rows(n) => {
+            n == stored
+                && success().is_stored(file, after(at, 5))
+                && rows_stored(found, n, file, after(at, 8))
+                && rows_kept(found, n)
+        }
+        Found::Refused(why) => {
+            stored == 0 && refused(why).is_stored(file, after(at, 5)) && rows_kept(found, 0)
+        }
+    }
+}
+
+// The same, with a list of the length that the lookup names.
+fn lookup_alike(column: Column, table: &[u64], bytes: &[u8], file: &[u8], at: usize) -> bool {
+    let length = count_at(file, after(at, 4));
+    if 256 < length {
+        return false;
+    }
+    let mut found = [ROW; 256];
+    found_alike(column, table, bytes, file, at, &mut found[..length])
+}
+
+// Makes so many lookups, up to the first that is answered otherwise.
+fn ask_lookups(
+    column: Column,
+    table: &[u64],
+    bytes: &[u8],
+    file: &[u8],
+    from: usize,
+    count: usize,
+) -> Walk {
+    let mut asked = 0;
+    let mut at = from;
+    while asked < count {
+        if !lookup_alike(column, table, bytes, file, at) {
+            break;
+        }
+        asked += 1;
+        at = after(after(at, 8), count_at(file, after(at, 7)));
+    }
+    Walk { asked, at }
+}
+
+// Asks the rows and makes the lookups of a record, which stand from a place on to the record's end.
+pub fn ask(
+    column: Column,
+    table: &[u64],
+    bytes: &[u8],
+    file: &[u8],
+    record: usize,
+    from: usize,
+    end: usize,
+) -> Outcome {
+    let rows = count_at(file, after(record, 16));
+    let lookups = count_at(file, after(record, 17));
+    let read = ask_rows(column, table, bytes, file, from, rows);
+    let looked = ask_lookups(column, table, bytes, file, read.at, lookups);
+    Outcome {
+        rows: read.asked,
+        lookups: looked.asked,
+        back: 0,
+        alike: read.asked == rows && looked.asked == lookups && looked.at == end,
+    }
+}
