@@ -1,6 +1,5 @@
 -- Demand 3: rows' bits lie inside the area and apart, and a row's answer depends on its own bits and on all of them.
 --     rows-inside, rows-apart, rows-tell, demand3
---     bit-differs      one bit that differs is enough
 -- Assumes nothing.
 use Prim.Native.Nat.{ℕ, _/_, _≤_, _<_}
 use mathlib.Core.Path.{_≡_, refl, sym, ap, _∙_, subst}
@@ -9,7 +8,6 @@ use mathlib.Core.List.{List}
 use native.Mathlib.Omega.{arith}
 use lib.ListN.{length}
 use Rattle.format.specs.Outcome.{Outcome.value}
-use Rattle.format.specs.Packing.{bitAt}
 use Rattle.format.specs.Opening.{Loaded, opened}
 use Rattle.format.specs.Reading.{packedOf, valueIn, blockAt}
 use Rattle.format.specs.Demands.{Owns, Inside, Apart, SameBits, answered, Differ, RowsTell, Tell, Demand3}
@@ -75,10 +73,6 @@ rows-tell s t table other o p so tp a =
       agree = λ (r : ℕ) (h : r < o .column .rows). bits-agree s t table other o so to (a .long) r h;
       differ = λ (r : ℕ) (h : r < o .column .rows). bits-differ s t table other o so to (a .long) r h;
     })
-
--- one bit that differs is enough
-pub bit-differs : (o : Loaded) (s t : List ℕ) (r k : ℕ) → Owns o r k → (bitAt s k ≡ bitAt t k → ⊥) → SameBits o s t r → ⊥
-bit-differs o s t r k own d same = d (same k own)
 
 pub demand3 : Demand3
 demand3 = (rows-inside, rows-apart, rows-tell)
