@@ -14,6 +14,7 @@ use borrow.Author.Tests.{lt-ltb}
 use Rattle.format.specs.declared.Codec.{Codec}
 use Rattle.format.specs.declared.Codec.the-variants.{Bitpacked, Linear, Blockwise}
 use Rattle.format.specs.declared.Column.{Column}
+use Rattle.format.specs.declared.Place.{Place}
 use Rattle.format.specs.declared.Fields.{Fields}
 use Rattle.format.specs.declared.Head.{Head}
 use Rattle.format.specs.Outcome.{Outcome.value}
@@ -21,7 +22,7 @@ use Rattle.format.specs.Word.{bytesFor}
 use Rattle.format.specs.Packing.{width, legal}
 use Rattle.format.specs.Bodies.{blockCount}
 use Rattle.format.specs.Opening.{columnOf, Loaded, Table, opened}
-use Rattle.format.specs.Reading.{Place, placeIn, hasBlock, blockAt}
+use Rattle.format.specs.Reading.{placeIn, hasBlock, blockAt}
 use Rattle.format.proofs.Lists.{below-or}
 use Rattle.format.proofs.Packing.{row-inside, row-before}
 use Rattle.format.proofs.Widths.{width-legal}

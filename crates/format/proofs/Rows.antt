@@ -19,13 +19,14 @@ use borrow.Author.Tests.{ltb-true, lt-ltb, le-leb}
 use Rattle.format.specs.declared.Codec.{Codec}
 use Rattle.format.specs.declared.Codec.the-variants.{Bitpacked, Linear, Blockwise}
 use Rattle.format.specs.declared.Column.{Column}
+use Rattle.format.specs.declared.Place.{Place}
 use Rattle.format.specs.declared.Block.{Block}
 use Rattle.format.specs.Outcome.{Outcome.value, Outcome.refusal, _>>_, demand}
 use Rattle.format.specs.Word.{modAdd}
 use Rattle.format.specs.Packing.{legal, bitAt}
 use Rattle.format.specs.Line.{lineAt}
 use Rattle.format.specs.Opening.{Loaded, opened}
-use Rattle.format.specs.Reading.{Place, placeIn, placeOf, blockAt, hasBlock, fits, packedOf, valueIn, rowIn, rowAt}
+use Rattle.format.specs.Reading.{placeIn, placeOf, blockAt, hasBlock, fits, packedOf, valueIn, rowIn, rowAt}
 use Rattle.format.specs.Demands.{filledBy, answered, Owns, SameBits, Differ}
 use Rattle.format.proofs.Outcomes.{told-apart}
 use Rattle.format.proofs.Packing.{unpack-below, locality, row-bits, bitAt-drop}

@@ -9,6 +9,7 @@ use Rattle.format.specs.declared.Codec.{Codec}
 use Rattle.format.specs.declared.Codec.the-variants.{Bitpacked, Linear, Blockwise}
 use Rattle.format.specs.declared.Column.{Column}
 use Rattle.format.specs.declared.Block.{Block}
+use Rattle.format.specs.declared.Place.{Place}
 use Rattle.format.specs.Outcome.{Outcome, Outcome.value, _>>=_, _>>_, demand}
 use Rattle.format.specs.Word.{modAdd}
 use Rattle.format.specs.Packing.{width, legal, unpack}
@@ -31,13 +32,7 @@ hasBlock Blockwise blocks r = ltb (r / 512) blocks
 
 -- ---- a row's bits
 
--- where a row's number stands: a run of packed numbers starts at a byte of the area, and it is number `row` there, of so many bits
-pub record Place : Type 0 where
-  pub start : ℕ
-  pub row : ℕ
-  pub bits : ℕ
-
--- by the codec and the row's block; Bitpacked's width comes from the count
+-- where a row's number stands, by the codec and the row's block; Bitpacked's width comes from the count
 unfoldable pub placeIn : Codec → (count : ℕ) → Block → (r : ℕ) → Place
 placeIn Bitpacked count b r = record { start = 0; row = r; bits = width count }
 placeIn (Linear l w) count b r = record { start = 0; row = r; bits = w }

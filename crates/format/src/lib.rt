@@ -89,6 +89,13 @@ pub struct Block {
     pub start: u64,
 }
 
+// Where a row's packed number stands: number `row`, of `bits` bits, of a run that starts at byte `start` of the area.
+pub struct Place {
+    pub start: u64,
+    pub row: u32,
+    pub bits: u64,
+}
+
 // A row of a column, and a row of one block: two counts.
 pub struct ColumnRow(pub u32);
 

@@ -18,7 +18,8 @@ use Rattle.format.specs.declared.Codec.the-variants.{Bitpacked, Linear, Blockwi
 use Rattle.format.specs.declared.Column.{Column}
 use Rattle.format.specs.declared.Line.{Line}
 use Rattle.format.specs.Packing.{legal}
-use Rattle.format.specs.Reading.{Place, placeIn, placeOf, hasBlock, fits}
+use Rattle.format.specs.declared.Place.{Place}
+use Rattle.format.specs.Reading.{placeIn, placeOf, hasBlock, fits}
 use Rattle.bitpacked.specs.Reader.{Readable as BitpackedReadable}
 use Rattle.linear.specs.Reader.{Readable as LinearReadable}
 use Rattle.blockwise_linear.specs.Reader.{Readable as BlockReadable}

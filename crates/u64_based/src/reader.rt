@@ -6,24 +6,17 @@ ghost use lib.Dec.{leb, eqb};
 ghost use Rattle.format.specs.Packing.{legal};
 ghost use Rattle.format.specs.Reading.{hasBlock, placeOf, fits, rowIn};
 ghost use Rattle.format.specs.Refusals.{rowMeaning};
-ghost use Rattle.u64_based.specs.Reading.{placed};
 use format::Block;
 use format::Codec;
 use format::Column;
 use format::ColumnRow;
+use format::Place;
 use format::Refusal;
 use format::RowRead;
 
-// Where a row's number stands: number `row`, of `bits` bits, of a run that starts at byte `start` of the area.
-pub(crate) struct Place {
-    pub start: u64,
-    pub row: u32,
-    pub bits: u64,
-}
-
 // The place of a row's number, by the codec.
 fn place_of(column: Column, block: Block, row: ColumnRow) -> Place
-    ensures { λ p. ⌜ placed p ≡ placeOf column block (row .0) ⌝ }
+    ensures { λ p. ⌜ p ≡ placeOf column block (row .0) ⌝ }
 {
     let codec = column.codec;
     match codec {

@@ -7,7 +7,8 @@ use native.Mathlib.Omega.{arith}
 use lib.Dec.{ltb}
 use borrow.Author.Tests.{lt-ltb, le-ltb, not-true, not-false}
 use Rattle.format.specs.Packing.{legal}
-use Rattle.format.specs.Reading.{Place, placeOf, hasBlock}
+use Rattle.format.specs.declared.Place.{Place}
+use Rattle.format.specs.Reading.{placeOf, hasBlock}
 use Rattle.u64_based.proofs.Fitting.{inArea, tested}
 use borrow.Author.Needs.{needs}
 use Rattle.u64_based.proofs.reader.fits.Statement.{statement}
