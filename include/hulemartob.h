@@ -58,7 +58,7 @@
 extern "C" {
 #endif
 
-/* Statistics of a list: minimum, maximum, gcd of the differences from the first value (1 where all are 0), rows. Refused 1. */
+/* Statistics of a list: minimum, maximum, gcd of how far they lie from the first (1 where all are equal), rows. Refused 1. */
 void hulemartob_column_stats(const uint64_t *values, size_t values_len, uint64_t stats[4], uint64_t refusal[2]);
 
 /* Writes a list as a column, by that of the listed codecs (a byte each: 0, 1 or 2) whose size is least, the earliest of equals. The

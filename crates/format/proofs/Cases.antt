@@ -53,7 +53,7 @@ marked =
     ∷ (looking p9 0 9 0 9 5 gives value [])
     ∷ (looking p9 10 25 0 9 5 gives value (0 ∷ 2 ∷ []))
     ∷ (looking p9 11 19 0 9 5 gives value [])
-    -- P10 with 08 made 18: only row 2 changes; made 0C: row 1 is refused
+    -- P10 with another packed byte: with 18 row 2 alone reads otherwise, with 0C row 1 is out of bounds
     ∷ (reading (p10 0x18) 1 0 gives value (10 ∷ []))
     ∷ (reading (p10 0x18) 1 1 gives value (30 ∷ []))
     ∷ (reading (p10 0x18) 1 2 gives value (30 ∷ []))

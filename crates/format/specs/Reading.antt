@@ -42,7 +42,7 @@ placeIn Blockwise count b r = record { start = b .start; row = r % 512; bits = b
 abbrev pub placeOf : Column → Block → (r : ℕ) → Place
 placeOf col b r = placeIn (col .codec) (col .count) b r
 
--- whether a column, a table of so many blocks with the row's block, and bytes fit together at a row: the gcd, the bounds, the block, its width, the area, and the row's bits if it has any
+-- whether a column, a table of so many blocks with the row's block, and bytes fit together at a row: the gcd, the bounds, the block, its width, the area, and, unless it has none, the row's bits
 unfoldable pub fits : Column → (blocks : ℕ) → Block → (s : List ℕ) (r : ℕ) → Bool
 fits col blocks b s r =
     let p = placeOf col b r in

@@ -24,7 +24,7 @@ unfoldable pub blockSizes : List (List ℕ) → ℕ
 blockSizes [] = 0
 blockSizes (b ∷ bs) = blockSize b + blockSizes bs
 
--- what a gcd is thought to save over so many rows: e · rows / 8, where 2^e is the greatest power of two not above it; nothing for gcd 1
+-- what a gcd is thought to save over so many rows: e bits a row, for the largest e with 2^e at most the gcd, in whole bytes; nothing for gcd 1
 unfoldable pub saving : (gcd rows : ℕ) → ℕ
 saving gcd rows = (bitLength gcd - 1) * rows / 8
 
@@ -54,7 +54,7 @@ smaller none b = b
 smaller (some a) none = some a
 smaller (some a) (some b) = pick (leb (a .size) (b .size)) (some a) (some b)
 
--- the least size wins; on equal sizes, the earliest in the list
+-- the smallest of a list; of equals, the one that is listed first
 unfoldable pub chosen : (size : ℕ → Option ℕ) → List ℕ → Option Sized
 chosen size [] = none
 chosen size (c ∷ cs) = smaller (sized c (size c)) (chosen size cs)

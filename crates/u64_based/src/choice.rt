@@ -1,6 +1,6 @@
-// The choice of a codec: the least size wins, on equal sizes the earliest in the caller's list.
+// The choice of a codec: the smallest of those listed, and of equals the one that is listed first.
 //
-// The list is walked once, and a codec is sized where it is met first: a codec that is not listed costs no pass over the values, and a
+// One walk over the list is enough, and a codec is sized where it is met first: a codec that is not listed costs no pass over the values, and a
 // repeat none either, for its first occurrence stands before it with the same size.
 ghost use mathlib.Core.Path.{_≡_};
 ghost use mathlib.Core.List.{List};

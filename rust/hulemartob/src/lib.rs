@@ -51,7 +51,7 @@ pub struct ColumnStats {
     pub minimum: u64,
     /// The greatest value, 0 where there is none.
     pub maximum: u64,
-    /// The gcd of the differences from the first value, 1 where all of them are 0.
+    /// The gcd of how far the values lie from the first, 1 where all are equal.
     pub gcd: u64,
     /// How many values there are.
     pub rows: u32,

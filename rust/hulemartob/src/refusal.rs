@@ -34,7 +34,7 @@ impl Refusal {
     /// The table's row in words.
     fn reason(self) -> &'static str {
         match self.number {
-            1 => "more than 4,294,967,295 values",
+            1 => "2^32 values or more",
             2 => "unknown codec at this place of the list",
             3 => "none of the listed codecs applies",
             4 => "output too short, length needed",
@@ -44,7 +44,7 @@ impl Refusal {
             8 => "bounds or rows out of range",
             9 => "illegal width, at offset",
             10 => "packed area or footer does not fit",
-            11 => "block table too short, blocks needed",
+            11 => "no room in the table for so many blocks",
             12 => "no such row",
             13 => "column, table and bytes do not belong together",
             14 => "value outside the column's bounds, in row",

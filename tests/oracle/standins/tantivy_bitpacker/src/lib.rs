@@ -4,7 +4,7 @@
 use std::io::{self, Write};
 use std::ops::{Range, RangeInclusive};
 
-/// Bit length, 0 for 0; 57 to 63 become 64.
+/// The bit length, none for 0; no width from 57 to 63 is used, 64 stands in.
 pub fn compute_num_bits(n: u64) -> u8 {
     let bits = (64 - n.leading_zeros()) as u8;
     if bits > 56 { 64 } else { bits }
