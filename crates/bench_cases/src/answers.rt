@@ -5,14 +5,14 @@ use format::Refusal;
 use format::RowRead;
 
 // A refusal's number and what it also returns; the number is 0 for success.
-pub struct Answer {
+pub(crate) struct Answer {
     pub number: u64,
     pub also: u64,
 }
 
 impl Answer {
     // Whether this is what stands at two words.
-    pub fn is_stored(self, file: &[u8], at: usize) -> bool {
+    pub(crate) fn is_stored(self, file: &[u8], at: usize) -> bool {
         if self.number != word_at(file, at) {
             return false;
         }
@@ -21,7 +21,7 @@ impl Answer {
 }
 
 // Success, with nothing beside it.
-pub fn success() -> Answer {
+pub(crate) fn success() -> Answer {
     Answer { number: 0, also: 0 }
 }
 
@@ -40,7 +40,7 @@ fn also(why: Refusal) -> u64 {
 }
 
 // A refusal.
-pub fn refused(why: Refusal) -> Answer {
+pub(crate) fn refused(why: Refusal) -> Answer {
     Answer {
         number: word::wide(why.number()),
         also: also(why),
@@ -48,7 +48,7 @@ pub fn refused(why: Refusal) -> Answer {
 }
 
 // A row that was read: its value stands where a refusal returns something.
-pub fn of_row(read: RowRead) -> Answer {
+pub(crate) fn of_row(read: RowRead) -> Answer {
     match read {
         RowRead::Value(value) => Answer {
             number: 0,
@@ -59,7 +59,7 @@ pub fn of_row(read: RowRead) -> Answer {
 }
 
 // What came of a record: how much was asked, and whether all of it was answered as stored.
-pub struct Outcome {
+pub(crate) struct Outcome {
     pub rows: usize,
     pub lookups: usize,
     pub back: usize,
@@ -67,7 +67,7 @@ pub struct Outcome {
 }
 
 // A record of which nothing could be asked, alike or not.
-pub fn nothing_asked(alike: bool) -> Outcome {
+pub(crate) fn nothing_asked(alike: bool) -> Outcome {
     Outcome {
         rows: 0,
         lookups: 0,

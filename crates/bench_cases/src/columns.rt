@@ -170,7 +170,7 @@ fn made_alike(bytes: &[u8], table: &mut [u64], file: &[u8], at: usize, end: usiz
 }
 
 // A record OPEN.
-pub fn open(file: &[u8], at: usize, end: usize) -> Outcome {
+pub(crate) fn open(file: &[u8], at: usize, end: usize) -> Outcome {
     let room = count_at(file, after(at, 1));
     if TABLE < room {
         return nothing_asked(false);
@@ -180,7 +180,7 @@ pub fn open(file: &[u8], at: usize, end: usize) -> Outcome {
 }
 
 // A record MADE. Its table is as long as it is filled.
-pub fn made(file: &[u8], at: usize, end: usize) -> Outcome {
+pub(crate) fn made(file: &[u8], at: usize, end: usize) -> Outcome {
     let room = count_at(file, after(at, 14));
     if TABLE < room {
         return nothing_asked(false);

@@ -12,7 +12,7 @@ pub const ROW: u32 = 0xa5c3_96e7;
 pub const BYTE: u8 = 0xa5;
 
 // Whether all numbers from an index on are marks.
-pub fn numbers_kept(table: &[u64], from: usize) -> bool {
+pub(crate) fn numbers_kept(table: &[u64], from: usize) -> bool {
     let mut i = from;
     while i < table.len() {
         if table[i] != NUMBER {
@@ -24,7 +24,7 @@ pub fn numbers_kept(table: &[u64], from: usize) -> bool {
 }
 
 // Whether all rows from an index on are marks.
-pub fn rows_kept(found: &[u32], from: usize) -> bool {
+pub(crate) fn rows_kept(found: &[u32], from: usize) -> bool {
     let mut i = from;
     while i < found.len() {
         if found[i] != ROW {
@@ -36,7 +36,7 @@ pub fn rows_kept(found: &[u32], from: usize) -> bool {
 }
 
 // Whether all bytes from an index on are marks.
-pub fn bytes_kept(out: &[u8], from: usize) -> bool {
+pub(crate) fn bytes_kept(out: &[u8], from: usize) -> bool {
     let mut i = from;
     while i < out.len() {
         if out[i] != BYTE {
@@ -48,7 +48,7 @@ pub fn bytes_kept(out: &[u8], from: usize) -> bool {
 }
 
 // Whether a table starts with so many words of the file.
-pub fn numbers_stored(table: &[u64], count: usize, file: &[u8], at: usize) -> bool {
+pub(crate) fn numbers_stored(table: &[u64], count: usize, file: &[u8], at: usize) -> bool {
     if table.len() < count {
         return false;
     }
@@ -63,7 +63,7 @@ pub fn numbers_stored(table: &[u64], count: usize, file: &[u8], at: usize) -> bo
 }
 
 // Whether a list starts with so many rows of the file.
-pub fn rows_stored(found: &[u32], count: usize, file: &[u8], at: usize) -> bool {
+pub(crate) fn rows_stored(found: &[u32], count: usize, file: &[u8], at: usize) -> bool {
     if found.len() < count {
         return false;
     }
@@ -78,7 +78,7 @@ pub fn rows_stored(found: &[u32], count: usize, file: &[u8], at: usize) -> bool 
 }
 
 // Whether some bytes start with others.
-pub fn starts_with(s: &[u8], first: &[u8]) -> bool {
+pub(crate) fn starts_with(s: &[u8], first: &[u8]) -> bool {
     if s.len() < first.len() {
         return false;
     }

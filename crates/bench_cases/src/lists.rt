@@ -231,7 +231,7 @@ fn zeros() -> [u64; VALUES]
 }
 
 // A record LIST.
-pub fn list(file: &[u8], at: usize, end: usize) -> Outcome {
+pub(crate) fn list(file: &[u8], at: usize, end: usize) -> Outcome {
     let rows = count_at(file, after(at, 1));
     if VALUES < rows {
         return nothing_asked(false);

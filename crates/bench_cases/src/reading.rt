@@ -106,7 +106,7 @@ fn ask_lookups(
 }
 
 // Asks the rows and makes the lookups of a record, which stand from a place on to the record's end.
-pub fn ask(
+pub(crate) fn ask(
     column: Column,
     table: &[u64],
     bytes: &[u8],

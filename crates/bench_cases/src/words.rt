@@ -6,12 +6,12 @@ ghost use Prim.Native.Nat.{_≤_};
 const MANY: usize = 65536;
 
 // The place so many words on.
-pub fn after(at: usize, words: usize) -> usize {
+pub(crate) fn after(at: usize, words: usize) -> usize {
     std::num::wrapping_add_usize(at, words)
 }
 
 // How many words hold so many bytes.
-pub fn words_for(bytes: usize) -> usize {
+pub(crate) fn words_for(bytes: usize) -> usize {
     bytes / 8 + (bytes % 8 + 7) / 8
 }
 
@@ -21,7 +21,7 @@ fn byte_at(s: &[u8], i: usize) -> u64 {
 }
 
 // A word, its bytes coming in from the top.
-pub fn word_at(file: &[u8], at: usize) -> u64 {
+pub(crate) fn word_at(file: &[u8], at: usize) -> u64 {
     if file.len() / 8 <= at {
         return 0;
     }
@@ -36,12 +36,12 @@ pub fn word_at(file: &[u8], at: usize) -> u64 {
 }
 
 // The low half of a word.
-pub fn half_at(file: &[u8], at: usize) -> u32 {
+pub(crate) fn half_at(file: &[u8], at: usize) -> u32 {
     (word_at(file, at) % 0x1_0000_0000) as u32
 }
 
 // A word that counts something in the file, cut to more than there can be.
-pub fn count_at(file: &[u8], at: usize) -> usize
+pub(crate) fn count_at(file: &[u8], at: usize) -> usize
     ensures { λ r. ⌜ r ≤ 65536 ⌝ }
 {
     let count = word_at(file, at) as usize;
@@ -49,7 +49,7 @@ pub fn count_at(file: &[u8], at: usize) -> usize
 }
 
 // So many bytes from a word on, or none where the file has fewer.
-pub fn bytes_at(file: &[u8], at: usize, count: usize) -> &[u8] {
+pub(crate) fn bytes_at(file: &[u8], at: usize, count: usize) -> &[u8] {
     if at <= file.len() / 8 {
         let start = at * 8;
         if count <= file.len() - start {
@@ -61,7 +61,7 @@ pub fn bytes_at(file: &[u8], at: usize, count: usize) -> &[u8] {
 }
 
 // Puts the words from a place on into a list.
-pub fn take_words(file: &[u8], at: usize, list: &mut [u64]) {
+pub(crate) fn take_words(file: &[u8], at: usize, list: &mut [u64]) {
     let mut i = 0;
     while i < list.len() {
         list[i] = word_at(file, after(at, i));
