@@ -5,6 +5,7 @@ It shares no code and no shape with the crates, nor with the Rust. Everything is
 A call that refuses raises Refused with the refusal's number and the number it also returns (0 where it returns none).
 
 As a program it writes the listing of the column on standard input, as `list` does:   tools/answers/model.py < docs/example.column
+With two files as arguments it writes their comparison, as `compare` does:             tools/answers/model.py LEFT RIGHT
 """
 
 import sys
@@ -319,28 +320,69 @@ def look_up(column, table, s, low, high, first, end, room):
     return found
 
 
-# ---- the listing
+# ---- the listing, and the comparison
+
+
+def open_in_program(s):
+    """Opening within a program's limits: 16 for the bytes before all else, for the rows after opening, and in the place of 11."""
+    demand(len(s) <= 65536, 16)
+    try:
+        column, table = open_column(s, 4 * 2048)
+    except Refused as r:
+        raise Refused(16) if r.number == 11 else r
+    demand(column.rows <= 1048576, 16)
+    return column, table
 
 
 def listing(s):
     try:
-        demand(len(s) <= 65536, 16)
-        try:
-            column, table = open_column(s, 4 * 2048)
-        except Refused as r:
-            raise Refused(16) if r.number == 11 else r
-        demand(column.rows <= 1048576, 16)
+        column, table = open_in_program(s)
     except Refused as r:
         return f"refused {r.number}\n"
     maximum = column.minimum + column.gcd * column.count
     text = f"codec {column.codec} rows {column.rows} min {column.minimum} max {maximum} gcd {column.gcd}\n"
     for row in range(column.rows):
-        try:
-            text += f"{row} {read_row(column, table, s, row)}\n"
-        except Refused as r:
-            text += f"{row} refused {r.number}\n"
+        text += f"{row} {answer_text(column, table, s, row)}\n"
     return text + f"end {column.rows}\n"
 
 
+def answer_text(column, table, s, row):
+    try:
+        return str(read_row(column, table, s, row))
+    except Refused as r:
+        return f"refused {r.number}"
+
+
+def comparison(left, right):
+    """Rows of both that differ, then rows of one only, then the count of lines. Two answers are equal if their texts are."""
+    sides = []
+    for name, s in (("left", left), ("right", right)):
+        try:
+            sides.append((*open_in_program(s), s))
+        except Refused as r:
+            return f"{name} refused {r.number}\n"
+    counts = [column.rows for column, _, _ in sides]
+    lines = []
+    for row in range(min(counts)):
+        a, b = (answer_text(*side, row) for side in sides)
+        if a != b:
+            lines.append(f"{row} {a} {b}\n")
+    for row in range(min(counts), max(counts)):
+        a, b = (answer_text(*side, row) if row < count else "none" for side, count in zip(sides, counts))
+        lines.append(f"{row} {a} {b}\n")
+    return "".join(lines) + f"lines {len(lines)}\n"
+
+
+def read_file(name):
+    try:
+        with open(name, "rb") as f:
+            return f.read()
+    except OSError:
+        return b""
+
+
 if __name__ == "__main__":
-    sys.stdout.write(listing(sys.stdin.buffer.read()))
+    if len(sys.argv) == 3:
+        sys.stdout.write(comparison(read_file(sys.argv[1]), read_file(sys.argv[2])))
+    else:
+        sys.stdout.write(listing(sys.stdin.buffer.read()))

@@ -15,9 +15,11 @@ use Rattle.format.specs.Opening.{Loaded, opened}
 use Rattle.format.specs.Reading.{rowAt}
 use Rattle.format.specs.Lookup.{lookedUp, within}
 use Rattle.format.specs.Listing.{listing, openedHere}
+use Rattle.format.specs.Comparing.{comparison}
 
 -- a number's spelling; its width; the line of four values; codecs, values and room; bytes and blocks; bytes, blocks and a row; a made-up column, table,
--- bytes and a row; bytes, low, high, first, end and room; codecs, values and a row of what was written; bytes in a program; the listing of bytes
+-- bytes and a row; bytes, low, high, first, end and room; codecs, values and a row of what was written; bytes in a program; the listing of bytes; the
+-- comparison of two
 pub data Asked : Type 0 where
   spelling : ℕ → Asked
   widthOf : ℕ → Asked
@@ -30,6 +32,7 @@ pub data Asked : Type 0 where
   returning : List ℕ → List ℕ → ℕ → Asked
   limited : List ℕ → Asked
   text : List ℕ → Asked
+  pair : List ℕ → List ℕ → Asked
 
 -- of four values: the slope of their line, the line with intercept 0 at the four places, the residuals, their width
 unfoldable pub lineOf : List ℕ → List ℕ
@@ -65,6 +68,7 @@ answer (looking s low high first end room) = opened s 1 >>= (λ (o : Loaded). lo
 answer (returning cs vs r) = written vs cs 5000 >>= (λ (s : List ℕ). opened s 9 >>= (λ (o : Loaded). alone (rowAt (o .column) (o .table) s r)))
 answer (limited s) = openedHere s >>= (λ (o : Loaded). value (numbersOf o))
 answer (text s) = value (listing s)
+answer (pair s t) = value (comparison s t)
 
 infix 4 _gives_
 -- a case: what is asked, and the right answer

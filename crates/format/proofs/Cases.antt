@@ -1,4 +1,4 @@
--- The bench cases that are marked P, with the lookups, the changed P10 and the listing beside them; and one statement over all tables of cases.
+-- The bench cases that are marked P, with the lookups, the changed P10, the listing and the comparison beside them; and one statement over all tables of cases.
 -- Assumes nothing.
 use Prim.Native.Nat.{ℕ, _-_, _^_}
 use mathlib.Core.Path.{_≡_, refl}
@@ -13,8 +13,9 @@ use Rattle.format.specs.Writing.{written, known, chosen, sizeOf, blockSi
 use Rattle.format.specs.Opening.{opened, openBody, openBitpacked, openLinear, openBlockwise, readWidth, readFields, readBlocks}
 use Rattle.format.specs.Reading.{rowIn, placeIn, fits, packedOf, valueIn}
 use Rattle.format.specs.Lookup.{lookedUp, allRead, rowsPassing}
-use Rattle.format.specs.Listing.{ascii, listing, openedHere, listed, headLine, named, namedLine, decimal, decimalIn, rowLine, rowLines}
-use Rattle.format.proofs.Asking.{Case, Case._gives_, Asked.spelling, Asked.widthOf, Asked.training, Asked.writing, Asked.reading, Asked.looking, Asked.text, lineOf, answer, question, said}
+use Rattle.format.specs.Listing.{ascii, listing, openedHere, listed, headLine, named, namedLine, decimal, decimalIn, rowLine, rowTexts}
+use Rattle.format.specs.Comparing.{comparison, compared, pairLines, pairLine}
+use Rattle.format.proofs.Asking.{Case, Case._gives_, Asked.spelling, Asked.widthOf, Asked.training, Asked.writing, Asked.reading, Asked.looking, Asked.text, Asked.pair, lineOf, answer, question, said}
 use Rattle.format.proofs.RuleCases.{rules}
 use Rattle.format.proofs.LongCases.{longs, upwards, downwards, times}
 
@@ -60,6 +61,8 @@ marked =
     ∷ (reading (p10 0x0C) 1 1 gives refusal 14 (1 ∷ []))
     -- the listing of P9
     ∷ (text p9 gives value (ascii "codec 0 rows 3 min 10 max 30 gcd 10\n0 10\n1 30\n2 20\nend 3\n"))
+    -- P10 compared with that of 0C
+    ∷ (pair (p10 0x08) (p10 0x0C) gives value (ascii "1 30 refused 14\nlines 1\n"))
     ∷ []
 
 -- all tables: the marked cases, a case for each rule, long columns
@@ -68,5 +71,5 @@ cases = marked ++ (rules ++ longs)
 
 -- the definitions give the right answer to each
 pub cases-hold : map (λ (c : Case). answer (question c)) cases ≡ map said cases
-unfolding answer lineOf upwards downwards times spell spellIn scan readVarint width bitLength bitsIn packed bytesOf rowsBits bitsOf numOf unpack statsOf reduce foldFrom gcd euclid spellHead readHead lineAt trained rising height slopeOf nearer residuals residualsFrom spellLine written known chosen sizeOf body bitpacked linear linearLine linearWidth deviations blockwise blocks blocksIn blockArea blockEntry blockWidth blockResiduals joined footer numBytes blockSize blockSizes saving opened openBody openBitpacked openLinear openBlockwise readWidth readFields readBlocks bytesNum rowIn placeIn fits packedOf valueIn listing openedHere listed headLine named namedLine decimal decimalIn rowLine rowLines lookedUp allRead rowsPassing
+unfolding answer lineOf upwards downwards times spell spellIn scan readVarint width bitLength bitsIn packed bytesOf rowsBits bitsOf numOf unpack statsOf reduce foldFrom gcd euclid spellHead readHead lineAt trained rising height slopeOf nearer residuals residualsFrom spellLine written known chosen sizeOf body bitpacked linear linearLine linearWidth deviations blockwise blocks blocksIn blockArea blockEntry blockWidth blockResiduals joined footer numBytes blockSize blockSizes saving opened openBody openBitpacked openLinear openBlockwise readWidth readFields readBlocks bytesNum rowIn placeIn fits packedOf valueIn listing openedHere listed headLine named namedLine decimal decimalIn rowLine rowTexts comparison compared pairLines pairLine lookedUp allRead rowsPassing
 cases-hold = refl

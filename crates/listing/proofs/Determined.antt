@@ -8,7 +8,7 @@ use lib.ListN.{length}
 use lib.Seq.{sets}
 use Rattle.format.specs.declared.Column.{Column}
 use Rattle.format.specs.declared.Opened.{Opened}
-use Rattle.format.specs.Listing.{ascii, namedLine, openedHere}
+use Rattle.format.specs.Listing.{ascii, namedLine, rowLine, openedHere}
 use Rattle.format.specs.Outcome.{Wrote}
 use Rattle.format.specs.Reading.{rowAt}
 use Rattle.format.proofs.Answers.{opened-injective}
@@ -16,7 +16,7 @@ use Rattle.u64_based.specs.Calls.{OpenedAs}
 use Rattle.listing.specs.declared.Begun.{Begun}
 use Rattle.listing.specs.declared.Filled.{Filled}
 use Rattle.listing.specs.Beginning.{BegunAs}
-use Rattle.listing.specs.Chunk.{chunk, filled}
+use Rattle.listing.specs.Chunk.{chunk, filled, lineMax}
 
 -- two answers of `open`, and what the lent table holds afterwards
 pub open-determined : (s table : List ℕ) (a b : Opened) (after after′ : List ℕ)
@@ -34,7 +34,7 @@ module _ (column : Column) (table bytes : List ℕ) (from : ℕ) (out : List ℕ
   answer = filled (rowAt column table bytes) (column .rows) (length out) from
 
   abbrev written : List ℕ
-  written = sets out 0 (chunk (rowAt column table bytes) (column .rows) (length out) from)
+  written = sets out 0 (chunk (rowLine (rowAt column table bytes)) lineMax (column .rows) (length out) from)
 
   pub fill-lines-determined : (a b : Filled) (new new′ : List ℕ) → a ≡ answer → b ≡ answer → new ≡ written → new′ ≡ written → (a ≡ b) × (new ≡ new′)
   fill-lines-determined a b new new′ p q n m = (p ∙ sym q, n ∙ sym m)

@@ -29,7 +29,7 @@ use Rattle.listing.specs.Beginning.{columnLine, firstLine}
 use Rattle.listing.specs.Chunk.{lineMax, chunks}
 use Rattle.listing.proofs.Limits.{here-opened}
 use Rattle.listing.proofs.Texts.{Sayable, row-most}
-use Rattle.listing.proofs.Chunks.{lines-same, chunks-all}
+use Rattle.listing.proofs.Chunks.{texts-same, chunks-all}
 
 -- a refusal is the only line
 pub listing-refused : (s : List ℕ) (number : ℕ) (also : List ℕ) → openedHere s ≡ refusal number also → firstLine (openedHere s) ≡ listing s
@@ -64,19 +64,24 @@ module _ (s table : List ℕ) (o : Loaded) (found : openedHere s ≡ value o) (e
       let laid = opened-laid s 2048 o (here-opened s o found) in
       filled-row o table s r (omega (arith, laid .table)) (laid .rows .present r h)
 
+  -- so its lines are the same
+  line-answers : (r : ℕ) → r < o .column .rows → rowLine (answered o table s) r ≡ rowLine (rowAt (o .column) (o .table) s) r
+  unfolding rowLine
+  line-answers r h = rw (answers r h)
+
   -- the first line, chunk after chunk, and the last line
   pub listing-chunks : (room : ℕ) → lineMax ≤ room →
       firstLine (openedHere s)
-      ++ (chunks (o .column .rows) (answered o table s) (o .column .rows) room 0 ++ namedLine (ascii "end ") (o .column .rows))
+      ++ (chunks (o .column .rows) (rowLine (answered o table s)) lineMax (o .column .rows) room 0 ++ namedLine (ascii "end ") (o .column .rows))
       ≡ listing s
   unfolding listing listed columnLine
   listing-chunks room free =
       let col = o .column in
       let all : col .rows - 0 ≡ col .rows = omega arith in
       rw found (ap (λ (l : List ℕ). columnLine col ++ (l ++ namedLine (ascii "end ") (col .rows)))
-      (chunks-all (answered o table s) (col .rows) (col .rows) room 0 free (omega arith)
+      (chunks-all (rowLine (answered o table s)) lineMax (col .rows) (col .rows) room 0 free (omega arith)
       ∙ ap (rowLines (answered o table s) 0) all
-      ∙ lines-same (answered o table s) (rowAt col (o .table) s) 0 (col .rows) (λ i h. answers i (omega arith))))
+      ∙ texts-same (rowLine (answered o table s)) (rowLine (rowAt col (o .table) s)) 0 (col .rows) (λ i h. line-answers i (omega arith))))
 
   -- a line of a row: its answer is a value inside the column's bounds, or 14
   pub line-most : (r : ℕ) → r < o .column .rows → length (rowLine (answered o table s) r) ≤ lineMax

@@ -1,19 +1,19 @@
 // A column as text: the first line, the rows' lines, as many at a time as a lent buffer has room for, and the last line. What is
 // refused is a line of its own. No argument makes a call fail, and each contract says what every lent entry holds afterwards.
-mod lines;
-mod put;
+pub mod lines;
+pub mod put;
 
 ghost use mathlib.Core.Path.{_≡_};
 ghost use lib.ListN.{length};
 ghost use lib.Seq.{sets};
 ghost use Rattle.io.specs.Counts.{Counts};
-ghost use Rattle.format.specs.Listing.{ascii, namedLine, openedHere};
+ghost use Rattle.format.specs.Listing.{ascii, namedLine, rowLine, openedHere};
 ghost use Rattle.format.specs.Opening.{columnIn};
 ghost use Rattle.format.specs.Outcome.{Wrote};
 ghost use Rattle.format.specs.Reading.{rowAt};
 ghost use Rattle.u64_based.specs.Calls.{OpenedAs};
 ghost use Rattle.listing.specs.Beginning.{BegunAs};
-ghost use Rattle.listing.specs.Chunk.{chunk, filled};
+ghost use Rattle.listing.specs.Chunk.{chunk, filled, lineMax};
 use format::Column;
 use format::ColumnRow;
 use format::Opened;
@@ -90,7 +90,7 @@ pub fn begin(bytes: &[u8], table: &mut [u64; 8192], line: &mut [u8; 128]) -> Beg
 // says so.
 pub fn fill_lines(column: Column, table: &[u64], bytes: &[u8], from: u32, out: &mut [u8]) -> Filled
     ensures { λ r. ⌜ r ≡ filled (rowAt column (now (table .entry)) (now (bytes .entry))) (column .rows) (length (now (out .entry))) from ⌝ }
-    ensures { λ _. ⌜ now (out .exit) ≡ sets (now (out .entry)) 0 (chunk (rowAt column (now (table .entry)) (now (bytes .entry))) (column .rows) (length (now (out .entry))) from) ⌝ }
+    ensures { λ _. ⌜ now (out .exit) ≡ sets (now (out .entry)) 0 (chunk (rowLine (rowAt column (now (table .entry)) (now (bytes .entry)))) lineMax (column .rows) (length (now (out .entry))) from) ⌝ }
     ensures { λ r. ⌜ Counts (r .bytes) (now (out .exit)) ⌝ }
 {
     let mut r = from;

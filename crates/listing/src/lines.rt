@@ -27,7 +27,7 @@ pub(crate) fn code_of(codec: Codec) -> u8
 }
 
 // The number of a refused opening; an opened column has none, and 0 stands for it.
-pub(crate) fn refusal_number(opened: Opened) -> u8
+pub fn refusal_number(opened: Opened) -> u8
     ensures { λ r. ⌜ r ≡ refusedBy (openedMeaning opened) ⌝ }
 {
     match opened {
@@ -65,7 +65,7 @@ pub(crate) fn refused_line(number: u8, out: &mut [u8; 128]) -> usize
 }
 
 // Writes a name and a number as a line, and returns its length. Internal: the name has at most a hundred bytes, so that the line has room.
-pub(crate) fn named_line(name: &[u8], n: u64, out: &mut [u8; 128]) -> usize
+pub fn named_line(name: &[u8], n: u64, out: &mut [u8; 128]) -> usize
     requires { ⌜ length (now name) ≤ 100 ⌝ }
     ensures { λ r. ⌜ Wrote (now (out .entry)) 0 (namedLine (now (name .entry)) n) (now (out .exit)) r ⌝ }
     ensures { λ r. ⌜ Counts r (now (out .exit)) ⌝ }
@@ -87,7 +87,7 @@ pub(crate) fn put_row(out: &mut [u8], at: usize, row: u32, answer: RowRead) -> u
 }
 
 // Writes what a row's line says of its row. Internal: twenty bytes have room there, and no answer takes more.
-fn put_answer(out: &mut [u8], at: usize, answer: RowRead) -> usize
+pub fn put_answer(out: &mut [u8], at: usize, answer: RowRead) -> usize
     requires { ⌜ at + 20 ≤ length (now out) ⌝ }
     ensures { λ r. ⌜ Wrote (now (out .entry)) at (answerText (rowMeaning answer)) (now (out .exit)) r ⌝ }
     ensures { λ r. ⌜ r ≤ at + 20 ⌝ }

@@ -6,7 +6,7 @@ ghost use Rattle.format.specs.Outcome.{Wrote};
 ghost use Rattle.format.specs.Listing.{decimal, named};
 
 // One byte. Internal: it has room.
-pub(crate) fn put_byte(out: &mut [u8], at: usize, b: u8) -> usize
+pub fn put_byte(out: &mut [u8], at: usize, b: u8) -> usize
     requires { ⌜ at < length (now out) ⌝ }
     ensures { λ r. ⌜ Wrote (now (out .entry)) at (b ∷ []) (now (out .exit)) r ⌝ }
 {
@@ -15,7 +15,7 @@ pub(crate) fn put_byte(out: &mut [u8], at: usize, b: u8) -> usize
 }
 
 // A text as it stands. Internal: it has room.
-pub(crate) fn put_text(out: &mut [u8], at: usize, s: &[u8]) -> usize
+pub fn put_text(out: &mut [u8], at: usize, s: &[u8]) -> usize
     requires { ⌜ at + length (now s) ≤ length (now out) ⌝ }
     ensures { λ r. ⌜ Wrote (now (out .entry)) at (now (s .entry)) (now (out .exit)) r ⌝ }
 {
@@ -23,7 +23,7 @@ pub(crate) fn put_text(out: &mut [u8], at: usize, s: &[u8]) -> usize
 }
 
 // A number in decimal. Internal: its digits have room.
-pub(crate) fn put_decimal(out: &mut [u8], at: usize, n: u64) -> usize
+pub fn put_decimal(out: &mut [u8], at: usize, n: u64) -> usize
     requires { ⌜ at + length (decimal n) ≤ length (now out) ⌝ }
     ensures { λ r. ⌜ Wrote (now (out .entry)) at (decimal n) (now (out .exit)) r ⌝ }
 {

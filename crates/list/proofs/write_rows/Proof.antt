@@ -1,9 +1,10 @@
 -- `write_rows` is safe and ends: each turn takes a row at least, and none but those that are left.
 -- Assumes nothing.
 use Prim.Native.Nat.{_-_, _≤_}
-use mathlib.Core.Path.{_≡_}
+use mathlib.Core.Path.{_≡_, ap}
 use native.Mathlib.Omega.{arith}
 use lib.ListN.{length}
+use Rattle.listing.specs.declared.Filled.{Filled}
 use Rattle.listing.specs.Chunk.{lineMax}
 use Rattle.listing.proofs.Chunks.{Took, took}
 use Rattle.list.proofs.write_rows.Statement.{statement}
@@ -16,8 +17,8 @@ abbrev μ-loop : tie.MeasureT-loop
 μ-loop column table bytes out₀ from₀ out from = column .rows - from
 
 -- after the call: what its answer gives
-took-here : (c : tie.After-fill-lines Inv-loop μ-loop) → Took (c .before .before .before .before .before .before .before .before .args .column .rows) (c .before .before .before .before .before .loop .from) (c .fill-lines .result)
-took-here c = took _ _ _ _ _ (c .fill-lines .ensures .0) (omega arith) (omega arith)
+took-here : (c : tie.After-fill-lines Inv-loop μ-loop) → Took (c .before .before .before .before .before .before .before .before .args .column .rows) (c .before .before .before .before .before .loop .from) (c .fill-lines .result .rows)
+took-here c = took _ _ _ _ _ _ (ap (λ (f : Filled). f .rows) (c .fill-lines .ensures .0)) (omega arith) (omega arith)
 
 loop-holds : tie.Need-loop-holds Inv-loop μ-loop
 loop-holds c = omega arith

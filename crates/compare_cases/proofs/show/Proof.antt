@@ -1,0 +1,79 @@
+-- `show` is safe: the line's length that beginning answers lies inside the line.
+-- Assumes nothing.
+use Rattle.io.specs.Counts.{Counts}
+use borrow.Author.Needs.{needs}
+use Rattle.compare_cases.proofs.show.Statement.{statement}
+use Rattle.compare_cases.proofs.show.Tie as tie
+
+write-all-requires : tie.Need-write-all-requires
+write-all-requires c κs = search needs
+
+begin-requires : tie.Need-begin-requires
+begin-requires c κs = search needs
+
+enum-known-n : tie.Need-enum-known-n
+enum-known-n c = search needs
+
+-- a refusal's line is there
+only-line : (c : tie.After-n) → Counts (c .n .given .0 .0) (c .before .before .begin .last .1 .1 .1 .1 .0)
+only-line c = rw (c .n .given .1) at (c .before .before .begin .ensures .counts)
+
+array-share-prefix-line : tie.Need-array-share-prefix-line
+array-share-prefix-line c = only-line (c .before) .0
+
+slice-aggregate-write-all : tie.Need-slice-aggregate-write-all
+slice-aggregate-write-all c = only-line (c .before .before) .1
+
+write-all-requires-2 : tie.Need-write-all-requires-2
+write-all-requires-2 c κs = search needs
+
+enum-known-a : tie.Need-enum-known-a
+enum-known-a c = search needs
+
+show-rows-requires : tie.Need-show-rows-requires
+show-rows-requires c κs = search needs
+
+show-rows-requires-2 : tie.Need-show-rows-requires-2
+show-rows-requires-2 c κs = search needs
+
+wrapping-add-u32-requires : tie.Need-wrapping-add-u32-requires
+wrapping-add-u32-requires c κs = search needs
+
+end-line-requires : tie.Need-end-line-requires
+end-line-requires c κs = search needs
+
+array-share-prefix-line-2 : tie.Need-array-share-prefix-line-2
+array-share-prefix-line-2 c = search needs
+
+slice-aggregate-write-all-2 : tie.Need-slice-aggregate-write-all-2
+slice-aggregate-write-all-2 c = search needs
+
+write-all-requires-3 : tie.Need-write-all-requires-3
+write-all-requires-3 c κs = search needs
+
+returns : tie.Need-returns
+returns c = search needs
+
+returns-2 : tie.Need-returns-2
+returns-2 c = search needs
+
+pub show-spec : {M : Type 1} → statement M
+show-spec =
+    tie.close
+    (tie.spec
+    write-all-requires
+    begin-requires
+    enum-known-n
+    array-share-prefix-line
+    slice-aggregate-write-all
+    write-all-requires-2
+    enum-known-a
+    show-rows-requires
+    show-rows-requires-2
+    wrapping-add-u32-requires
+    end-line-requires
+    array-share-prefix-line-2
+    slice-aggregate-write-all-2
+    write-all-requires-3
+    returns
+    returns-2)

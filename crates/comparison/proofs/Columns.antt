@@ -1,0 +1,153 @@
+-- What a comparison of two opened columns says.
+--     comparison-refused                 a side that does not open: one line
+--     comparison-chunks                  two that open: chunk after chunk, and the last line
+--     comparison-self                    a column compared with itself
+--     equal-columns                      `lines 0` exactly for as many rows with equal answers
+--     lacks-left, lacks-right            a row of one side only has a line
+-- Assumes nothing.
+use Prim.Native.Nat.{ℕ, _/_, _≤_, _<_, max}
+use mathlib.Core.Path.{_≡_, refl, sym, ap, _∙_}
+use mathlib.Core.Bool.{Bool, true, false}
+use mathlib.Core.Logic.{_↔_, _⊎_, inl, inr, ⊎-elim}
+use mathlib.Core.List.{List, [], _∷_, _++_}
+use native.Mathlib.Omega.{arith}
+use borrow.Author.Tests.{le-ltb, eqb-true}
+use lib.ListN.{length, replicate, length-replicate}
+use Rattle.format.specs.Outcome.{Outcome, Outcome.value, Outcome.refusal}
+use Rattle.format.specs.Opening.{Loaded}
+use Rattle.format.specs.Reading.{rowIn, rowAt}
+use Rattle.format.specs.Demands.{filledBy, answered}
+use Rattle.format.specs.Listing.{ascii, namedLine, openedHere}
+use Rattle.format.specs.Comparing.{equalAnswers, compared, comparison}
+use Rattle.format.proofs.Laid.{opened-laid}
+use Rattle.format.proofs.Lists.{below-or}
+use Rattle.format.proofs.Rows.{filled-row, own-row}
+use Rattle.listing.specs.Chunk.{chunks}
+use Rattle.listing.proofs.Limits.{here-opened}
+use Rattle.comparison.specs.Beginning.{onlyLine}
+use Rattle.comparison.specs.Chunk.{pairMax, textOf, lineCounts}
+use Rattle.comparison.proofs.Comparisons.{equal-self, nothing-differs, chunks-compared, compared-self}
+
+-- ---- one column
+
+-- what a row of a column that opens answers: a value, or 14
+abbrev Own : (r : ℕ) → Outcome ℕ → Type 0
+Own r o = ((v : ℕ) × (o ≡ value v)) ⊎ (o ≡ refusal 14 (r ∷ []))
+
+module _ (s : List ℕ) (o : Loaded) (found : openedHere s ≡ value o) where
+  -- reading by the opening's own numbers
+  abbrev reading : ℕ → Outcome ℕ
+  reading r = rowAt (o .column) (o .table) s r
+
+  -- a row that the column lacks
+  lacking : (r : ℕ) (table : List ℕ) → o .column .rows ≤ r → rowAt (o .column) table s r ≡ refusal 12 []
+  unfolding rowIn
+  lacking r table h = simp (le-ltb r (o .column .rows) h)
+
+  -- a lent table that was filled answers as they do
+  answers : (table : List ℕ) → 8192 ≤ length table → (r : ℕ) → answered o table s r ≡ reading r
+  answers table enough r =
+      ⊎-elim
+      (λ inside. let laid = opened-laid s 2048 o (here-opened s o found) in
+      filled-row o table s r (omega (arith, laid .table)) (laid .rows .present r inside))
+      (λ over. lacking r (filledBy o table) over ∙ sym (lacking r (o .table) over))
+      (below-or r (o .column .rows))
+
+  -- a row of its own, whichever table was lent
+  own-by : (table : List ℕ) → length table ≡ 8192 → (r : ℕ) → r < o .column .rows → Own r (reading r)
+  own-by table long r h =
+      let room : 2048 ≡ length table / 4 = omega arith in
+      rw (← answers table (omega arith) r) (own-row s table o (rw (← room) (here-opened s o found)) r h)
+
+  own : (r : ℕ) → r < o .column .rows → Own r (reading r)
+  own = own-by (replicate {A = ℕ} 8192 0) (length-replicate {A = ℕ} 8192 0)
+
+-- ---- two answers
+
+same-own : (r : ℕ) (a b : Outcome ℕ) → Own r a → Own r b → equalAnswers a b ≡ true → a ≡ b
+same-own r a b (inl v) (inl w) e =
+    let same : v .0 ≡ w .0 = eqb-true (v .0) (w .0) (rw (v .1, w .1) at e) in
+    v .1 ∙ ap value same ∙ sym (w .1)
+same-own r a b (inl v) (inr w) e = absurd (let z : false ≡ true = rw (v .1, w) at e in let y : _≡_ {A = ℕ} 0 1 = cc in omega arith)
+same-own r a b (inr v) (inl w) e = absurd (let z : false ≡ true = rw (v, w .1) at e in let y : _≡_ {A = ℕ} 0 1 = cc in omega arith)
+same-own r a b (inr v) (inr w) e = v ∙ sym w
+
+-- an answer of a row that is there is no 12
+no-absent : (r : ℕ) (b : Outcome ℕ) → Own r b → (equalAnswers (refusal 12 []) b ≡ false) × (equalAnswers b (refusal 12 []) ≡ false)
+no-absent r b (inl w) = rw (w .1) (refl, refl)
+no-absent r b (inr w) = rw w (refl, refl)
+
+-- ---- the comparison
+
+-- a side that does not open is the only line
+pub comparison-left : (s t : List ℕ) (number : ℕ) (also : List ℕ) → openedHere s ≡ refusal number also → onlyLine (openedHere s) (openedHere t) ≡ comparison s t
+unfolding comparison
+comparison-left s t number also e = rw e
+
+pub comparison-right : (s t : List ℕ) (o : Loaded) (number : ℕ) (also : List ℕ) → openedHere s ≡ value o → openedHere t ≡ refusal number also
+    → onlyLine (openedHere s) (openedHere t) ≡ comparison s t
+unfolding comparison
+comparison-right s t o number also e f = rw (e, f)
+
+module _ (s t : List ℕ) (o p : Loaded) (e : openedHere s ≡ value o) (f : openedHere t ≡ value p) where
+  -- the rows of either
+  abbrev rows : ℕ
+  rows = max (o .column .rows) (p .column .rows)
+
+  both : comparison s t ≡ compared (rowAt (o .column) (o .table) s) (rowAt (p .column) (p .table) t) rows
+  unfolding comparison
+  both = rw (e, f)
+
+  -- chunk after chunk, and the last line with the sum of their lines
+  pub comparison-chunks : (ltable rtable : List ℕ) → 8192 ≤ length ltable → 8192 ≤ length rtable → (room : ℕ) → pairMax ≤ room →
+      chunks rows (textOf (answered o ltable s) (answered p rtable t)) pairMax rows room 0
+      ++ namedLine (ascii "lines ") (lineCounts rows (answered o ltable s) (answered p rtable t) rows room 0)
+      ≡ comparison s t
+  comparison-chunks ltable rtable l m room free =
+      let left : answered o ltable s ≡ rowAt (o .column) (o .table) s = (λ i r. answers s o e ltable l r i) in
+      let right : answered p rtable t ≡ rowAt (p .column) (p .table) t = (λ i r. answers t p f rtable m r i) in
+      chunks-compared (answered o ltable s) (answered p rtable t) rows room free
+      ∙ ap (λ (g : ℕ → Outcome ℕ). compared g (answered p rtable t) rows) left
+      ∙ ap (λ (g : ℕ → Outcome ℕ). compared (rowAt (o .column) (o .table) s) g rows) right
+      ∙ sym both
+
+  -- a row of one side only has a line
+  pub lacks-left : (x : ℕ) → o .column .rows ≤ x → x < p .column .rows → equalAnswers (rowAt (o .column) (o .table) s x) (rowAt (p .column) (p .table) t x) ≡ false
+  lacks-left x over inside = rw (lacking s o e x (o .table) over) (no-absent x (rowAt (p .column) (p .table) t x) (own t p f x inside) .0)
+
+  pub lacks-right : (x : ℕ) → x < o .column .rows → p .column .rows ≤ x → equalAnswers (rowAt (o .column) (o .table) s x) (rowAt (p .column) (p .table) t x) ≡ false
+  lacks-right x inside over = rw (lacking t p f x (p .table) over) (no-absent x (rowAt (o .column) (o .table) s x) (own s o e x inside) .1)
+
+  -- nothing is said exactly of two columns of as many rows, with equal answers
+  pub equal-columns : (comparison s t ≡ namedLine (ascii "lines ") 0)
+      ↔ ((o .column .rows ≡ p .column .rows) × ((x : ℕ) → x < o .column .rows → rowAt (o .column) (o .table) s x ≡ rowAt (p .column) (p .table) t x))
+  equal-columns = (there, back)
+    where
+      there : comparison s t ≡ namedLine (ascii "lines ") 0
+          → (o .column .rows ≡ p .column .rows) × ((x : ℕ) → x < o .column .rows → rowAt (o .column) (o .table) s x ≡ rowAt (p .column) (p .table) t x)
+      there e0 = (as-many, λ x h. same-own x (rowAt (o .column) (o .table) s x) (rowAt (p .column) (p .table) t x) (own s o e x h) (own t p f x (omega (arith, as-many))) (equal x (omega (arith, as-many))))
+        where
+          equal : (x : ℕ) → x < rows → equalAnswers (rowAt (o .column) (o .table) s x) (rowAt (p .column) (p .table) t x) ≡ true
+          equal = nothing-differs (rowAt (o .column) (o .table) s) (rowAt (p .column) (p .table) t) rows .0 (sym both ∙ e0)
+
+          clash : {b : Bool} → b ≡ true → b ≡ false → ⊥
+          clash {b} is not = let z : _≡_ {A = ℕ} 0 1 = cc in omega arith
+
+          as-many : o .column .rows ≡ p .column .rows
+          as-many =
+              ⊎-elim
+              (λ fewer. absurd (clash (equal (o .column .rows) (omega arith)) (lacks-left (o .column .rows) (omega arith) fewer)))
+              (λ least. ⊎-elim
+              (λ more. absurd (clash (equal (p .column .rows) (omega arith)) (lacks-right (p .column .rows) more (omega arith))))
+              (λ most. omega arith)
+              (below-or (p .column .rows) (o .column .rows)))
+              (below-or (o .column .rows) (p .column .rows))
+
+      back : (o .column .rows ≡ p .column .rows) × ((x : ℕ) → x < o .column .rows → rowAt (o .column) (o .table) s x ≡ rowAt (p .column) (p .table) t x)
+          → comparison s t ≡ namedLine (ascii "lines ") 0
+      back h = both ∙ nothing-differs (rowAt (o .column) (o .table) s) (rowAt (p .column) (p .table) t) rows .1
+          (λ x inside. rw (← h .1 x (omega (arith, h .0))) (equal-self (rowAt (o .column) (o .table) s x)))
+
+-- a column compared with itself
+pub comparison-self : (s : List ℕ) (o : Loaded) → openedHere s ≡ value o → comparison s s ≡ namedLine (ascii "lines ") 0
+comparison-self s o e = both s s o o e e ∙ compared-self (rowAt (o .column) (o .table) s) (max (o .column .rows) (o .column .rows))

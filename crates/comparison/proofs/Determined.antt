@@ -1,0 +1,43 @@
+-- The contracts of the comparison's calls determine what they answer and what every lent entry holds afterwards: two results that they allow coincide.
+--     begin-determined, row-count-determined, fill-lines-determined, end-line-determined
+-- Assumes nothing.
+use Prim.Native.Nat.{ℕ, max}
+use mathlib.Core.Path.{_≡_, sym, _∙_}
+use mathlib.Core.List.{List}
+use lib.ListN.{length}
+use lib.Seq.{sets}
+use Rattle.format.specs.declared.Column.{Column}
+use Rattle.format.specs.Listing.{ascii, namedLine, openedHere}
+use Rattle.format.specs.Outcome.{Wrote}
+use Rattle.format.specs.Reading.{rowAt}
+use Rattle.comparison.specs.declared.Begun.{Begun}
+use Rattle.comparison.specs.declared.Filled.{Filled}
+use Rattle.comparison.specs.Beginning.{BegunAs}
+use Rattle.comparison.specs.Chunk.{pairChunk, filled}
+
+-- two answers of `begin`, and what the lent tables and the line hold afterwards
+pub begin-determined : (s t ltable rtable line : List ℕ) (a b : Begun) (left left′ right right′ new new′ : List ℕ)
+    → BegunAs (openedHere s) (openedHere t) a ltable left rtable right line new → BegunAs (openedHere s) (openedHere t) b ltable left′ rtable right′ line new′
+    → (a ≡ b) × (left ≡ left′) × (right ≡ right′) × (new ≡ new′)
+begin-determined s t ltable rtable line a b left left′ right right′ new new′ p q =
+    (p .answer ∙ sym (q .answer), p .left-table ∙ sym (q .left-table), p .right-table ∙ sym (q .right-table), p .line ∙ sym (q .line))
+
+-- two answers of `row_count`
+pub row-count-determined : (left right : Column) (a b : ℕ) → a ≡ max (left .rows) (right .rows) → b ≡ max (left .rows) (right .rows) → a ≡ b
+row-count-determined left right a b p q = p ∙ sym q
+
+-- two answers of `fill_lines`, and what the lent buffer holds afterwards
+module _ (left : Column) (ltable lbytes : List ℕ) (right : Column) (rtable rbytes : List ℕ) (from : ℕ) (out : List ℕ) where
+  abbrev answer : Filled
+  answer = filled (rowAt left ltable lbytes) (rowAt right rtable rbytes) (max (left .rows) (right .rows)) (length out) from
+
+  abbrev written : List ℕ
+  written = sets out 0 (pairChunk (rowAt left ltable lbytes) (rowAt right rtable rbytes) (max (left .rows) (right .rows)) (length out) from)
+
+  pub fill-lines-determined : (a b : Filled) (new new′ : List ℕ) → a ≡ answer → b ≡ answer → new ≡ written → new′ ≡ written → (a ≡ b) × (new ≡ new′)
+  fill-lines-determined a b new new′ p q n m = (p ∙ sym q, n ∙ sym m)
+
+-- two answers of `end_line`, and what the lent line holds afterwards
+pub end-line-determined : (lines : ℕ) (line : List ℕ) (a b : ℕ) (new new′ : List ℕ)
+    → Wrote line 0 (namedLine (ascii "lines ") lines) new a → Wrote line 0 (namedLine (ascii "lines ") lines) new′ b → (a ≡ b) × (new ≡ new′)
+end-line-determined lines line a b new new′ p q = (p .ends ∙ sym (q .ends), p .list ∙ sym (q .list))

@@ -1,0 +1,38 @@
+-- How a comparison begins: with two opened columns, or with a refusal's line.
+-- Assumes nothing.
+use Prim.Native.Nat.{ℕ}
+use mathlib.Core.Path.{_≡_}
+use mathlib.Core.List.{List, []}
+use lib.ListN.{length}
+use lib.Seq.{sets}
+use Rattle.io.specs.Counts.{Counts}
+use Rattle.format.specs.Listing.{ascii, namedLine}
+use Rattle.format.specs.Opening.{Loaded, tableIn}
+use Rattle.format.specs.Outcome.{Outcome, Outcome.value, Outcome.refusal, stored}
+use Rattle.comparison.specs.declared.Begun.{Begun}
+use Rattle.comparison.specs.declared.Begun.the-variants.{Columns, Refused}
+
+-- the line of the first side that does not open; none where both do
+abbrev pub onlyLine : (left right : Outcome Loaded) → List ℕ
+onlyLine (refusal number also) right = namedLine (ascii "left refused ") number
+onlyLine (value o) (refusal number also) = namedLine (ascii "right refused ") number
+onlyLine (value o) (value p) = []
+
+-- the answer
+abbrev pub begun : (left right : Outcome Loaded) → Begun
+begun (refusal number also) right = Refused (length (namedLine (ascii "left refused ") number))
+begun (value o) (refusal number also) = Refused (length (namedLine (ascii "right refused ") number))
+begun (value o) (value p) = Columns (o .column) (p .column)
+
+-- the line's length in it
+abbrev pub lineLength : Begun → ℕ
+lineLength (Columns c d) = 0
+lineLength (Refused n) = n
+
+-- the answer, what each side's table holds, and the line before and after, whose first bytes the answer counts
+pub record BegunAs (left right : Outcome Loaded) (r : Begun) (ltable ltable′ rtable rtable′ old new : List ℕ) : Type 0 where
+  pub answer : r ≡ begun left right
+  pub left-table : ltable′ ≡ stored (tableIn left) ltable
+  pub right-table : rtable′ ≡ stored (tableIn right) rtable
+  pub line : new ≡ sets old 0 (onlyLine left right)
+  pub counts : Counts (lineLength r) new

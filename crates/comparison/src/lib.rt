@@ -1,0 +1,114 @@
+// Two columns compared, as text: a line for each row whose answers differ, as many at a time as a lent buffer has room for, and the count of
+// lines. A side that does not open is a line of its own. No argument makes a call fail, and each contract says what every lent entry
+// holds afterwards.
+mod lines;
+
+ghost use mathlib.Core.Path.{_≡_};
+ghost use Prim.Native.Nat.{max};
+ghost use lib.ListN.{length};
+ghost use lib.Seq.{sets};
+ghost use Rattle.io.specs.Counts.{Counts};
+ghost use Rattle.format.specs.Listing.{ascii, namedLine, openedHere};
+ghost use Rattle.format.specs.Outcome.{Wrote};
+ghost use Rattle.format.specs.Reading.{rowAt};
+ghost use Rattle.comparison.specs.Beginning.{BegunAs};
+ghost use Rattle.comparison.specs.Chunk.{pairChunk, filled};
+use format::Column;
+use format::ColumnRow;
+use format::Opened;
+use lines::Done;
+use listing::lines::named_line;
+use listing::lines::refusal_number;
+
+// The longest line of a row.
+const LINE_MAX: usize = 53;
+
+// How a comparison begins: with both columns, left and right, or with the line of the first side that does not open, by its length.
+pub enum Begun {
+    Columns(Column, Column),
+    Refused(usize),
+}
+
+// What a chunk took: how many rows were looked at, how many lines they have, and how many bytes the lines are.
+pub struct Filled {
+    pub rows: u32,
+    pub lines: u32,
+    pub bytes: usize,
+}
+
+// Begins a comparison: opens both sides within a program's limits, each with its own table, and writes a refusal's line, the only one then, at the
+// start of the lent one.
+pub fn begin(
+    left: &[u8],
+    ltable: &mut [u64; 8192],
+    right: &[u8],
+    rtable: &mut [u64; 8192],
+    line: &mut [u8; 128],
+) -> Begun
+    ensures { λ r. ⌜ BegunAs (openedHere (now (left .entry))) (openedHere (now (right .entry))) r (now (ltable .entry)) (now (ltable .exit)) (now (rtable .entry)) (now (rtable .exit)) (now (line .entry)) (now (line .exit)) ⌝ }
+{
+    let opened = listing::open(left, ltable);
+    let other = listing::open(right, rtable);
+    let Opened::Column(column) = opened else {
+        let number = refusal_number(opened) as u64;
+        return Begun::Refused(named_line(b"left refused ", number, line));
+    };
+    let Opened::Column(against) = other else {
+        let number = refusal_number(other) as u64;
+        return Begun::Refused(named_line(b"right refused ", number, line));
+    };
+    Begun::Columns(column, against)
+}
+
+// The rows that a comparison looks at: those of the column that has more.
+pub fn row_count(left: Column, right: Column) -> u32
+    ensures { λ r. ⌜ r ≡ max (left .rows) (right .rows) ⌝ }
+{
+    if left.rows < right.rows {
+        return right.rows;
+    }
+    left.rows
+}
+
+// Writes the lines of the rows from `from` on whose answers differ at the start of a buffer, while a longest line has room. Rows with equal answers
+// take none, so a call that meets no other looks at all that are left.
+pub fn fill_lines(
+    left: Column,
+    ltable: &[u64],
+    lbytes: &[u8],
+    right: Column,
+    rtable: &[u64],
+    rbytes: &[u8],
+    from: u32,
+    out: &mut [u8],
+) -> Filled
+    ensures { λ r. ⌜ r ≡ filled (rowAt left (now (ltable .entry)) (now (lbytes .entry))) (rowAt right (now (rtable .entry)) (now (rbytes .entry))) (max (left .rows) (right .rows)) (length (now (out .entry))) from ⌝ }
+    ensures { λ _. ⌜ now (out .exit) ≡ sets (now (out .entry)) 0 (pairChunk (rowAt left (now (ltable .entry)) (now (lbytes .entry))) (rowAt right (now (rtable .entry)) (now (rbytes .entry))) (max (left .rows) (right .rows)) (length (now (out .entry))) from) ⌝ }
+    ensures { λ r. ⌜ Counts (r .bytes) (now (out .exit)) ⌝ }
+{
+    let rows = row_count(left, right);
+    let mut r = from;
+    let mut done = Done { lines: 0, bytes: 0 };
+    while r < rows {
+        if out.len() - done.bytes < LINE_MAX {
+            break;
+        }
+        let a = u64_based::row(left, ltable, lbytes, ColumnRow(r));
+        let b = u64_based::row(right, rtable, rbytes, ColumnRow(r));
+        done = lines::put_row(out, done, r, a, b);
+        r += 1;
+    }
+    Filled {
+        rows: r - from,
+        lines: done.lines,
+        bytes: done.bytes,
+    }
+}
+
+// Writes the last line, with the count of lines before it, at the start of the lent one, and returns its length.
+pub fn end_line(lines: u32, line: &mut [u8; 128]) -> usize
+    ensures { λ r. ⌜ Wrote (now (line .entry)) 0 (namedLine (ascii "lines ") lines) (now (line .exit)) r ⌝ }
+    ensures { λ r. ⌜ Counts r (now (line .exit)) ⌝ }
+{
+    named_line(b"lines ", lines as u64, line)
+}
