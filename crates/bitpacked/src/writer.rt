@@ -1,4 +1,4 @@
-// Writing: the estimate, and the body.
+// Writing: the estimate, and the body. A value is read as the number that its kind is stored as.
 ghost use mathlib.Core.Path.{_≡_};
 ghost use mathlib.Core.List.{map, _++_};
 ghost use Prim.Native.Nat.{_+_, _*_, _≤_};
@@ -8,10 +8,12 @@ ghost use Rattle.format.specs.Word.{bytesFor};
 ghost use Rattle.format.specs.Packing.{width, packed};
 ghost use Rattle.format.specs.Stats.{countOf, spellHead};
 ghost use Rattle.format.specs.Bodies.{normalised, bitpacked};
+ghost use Rattle.format.specs.Typed.{storedAs};
 ghost use Rattle.bitpacker.specs.Packer.{Packable};
 ghost use Rattle.stats.specs.Asked.{Sound, Describes};
 use bitpacker::BitPacker;
 use format::ColumnStats;
+use format::Kind;
 
 // Internal: asks for statistics that a head can be made of. The length of the body.
 pub fn estimate(stats: ColumnStats) -> usize
@@ -23,10 +25,10 @@ pub fn estimate(stats: ColumnStats) -> usize
 }
 
 // Packs the normalised values to the front of the output. A value is normalised on its way into the packer.
-fn pack_normalised(values: &[u64], stats: ColumnStats, bits: u8, out: &mut [u8])
-    requires { ⌜ Describes stats (now values) ⌝ }
-    requires { ⌜ Packable bits (map (normalised stats) (now values)) (now out) ⌝ }
-    ensures { λ _. ⌜ now (out .exit) ≡ packed bits (map (normalised stats) (now (values .entry))) ++ drop (bytesFor (bits * length (now (values .entry)))) (now (out .entry)) ⌝ }
+fn pack_normalised(kind: Kind, values: &[u64], stats: ColumnStats, bits: u8, out: &mut [u8])
+    requires { ⌜ Describes stats (storedAs kind (now values)) ⌝ }
+    requires { ⌜ Packable bits (map (normalised stats) (storedAs kind (now values))) (now out) ⌝ }
+    ensures { λ _. ⌜ now (out .exit) ≡ packed bits (map (normalised stats) (storedAs kind (now (values .entry)))) ++ drop (bytesFor (bits * length (now (values .entry)))) (now (out .entry)) ⌝ }
 {
     let minimum = stats.minimum;
     let gcd = stats.gcd;
@@ -34,7 +36,7 @@ fn pack_normalised(values: &[u64], stats: ColumnStats, bits: u8, out: &mut [u8])
     let mut packer = BitPacker::new();
     let mut i = 0;
     while i < rows {
-        let v = values[i];
+        let v = monotonic_mapping::stored_of(kind, values[i]);
         packer = packer.write(out, (v - minimum) / gcd, bits);
         i += 1;
     }
@@ -42,13 +44,13 @@ fn pack_normalised(values: &[u64], stats: ColumnStats, bits: u8, out: &mut [u8])
 }
 
 // Internal: asks for the values' own statistics, and for room. Writes the body at an offset, and returns the offset behind it.
-pub fn serialize(values: &[u64], stats: ColumnStats, out: &mut [u8], at: usize) -> usize
-    requires { ⌜ Describes stats (now values) ⌝ }
-    requires { ⌜ at + length (bitpacked stats (now values)) ≤ length (now out) ⌝ }
-    ensures { λ r. ⌜ Wrote (now (out .entry)) at (bitpacked stats (now (values .entry))) (now (out .exit)) r ⌝ }
+pub fn serialize(kind: Kind, values: &[u64], stats: ColumnStats, out: &mut [u8], at: usize) -> usize
+    requires { ⌜ Describes stats (storedAs kind (now values)) ⌝ }
+    requires { ⌜ at + length (bitpacked stats (storedAs kind (now values))) ≤ length (now out) ⌝ }
+    ensures { λ r. ⌜ Wrote (now (out .entry)) at (bitpacked stats (storedAs kind (now (values .entry)))) (now (out .exit)) r ⌝ }
 {
     let start = stats::head_write(out, at, stats);
     let bits = bitpacker::compute_num_bits(stats::count_of(stats));
-    pack_normalised(values, stats, bits, &mut out[start..]);
+    pack_normalised(kind, values, stats, bits, &mut out[start..]);
     start + bitpacker::packed_len(values.len(), bits)
 }

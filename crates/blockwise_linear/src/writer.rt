@@ -1,4 +1,4 @@
-// Writing: the estimate, the sizes of all blocks, and the body.
+// Writing: the estimate, the sizes of all blocks, and the body. A value is read as the number that its kind is stored as.
 ghost use mathlib.Core.Path.{_≡_};
 ghost use mathlib.Core.Option.{some};
 ghost use mathlib.Core.List.{_++_, map};
@@ -11,9 +11,11 @@ ghost use Rattle.format.specs.Stats as stated;
 ghost use Rattle.format.specs.Line.{residuals};
 ghost use Rattle.format.specs.Bodies.{normalised, blockwise};
 ghost use Rattle.format.specs.Writing.{saving, sizeOf};
+ghost use Rattle.format.specs.Typed.{storedAs};
 ghost use Rattle.stats.specs.Asked.{Sound, Describes};
 ghost use Rattle.blockwise_linear.specs.Writer.{normals, partOf, Above, Part, Fitted, BlockTakes, Room, Places, Placed, areas, entries, Takes, FewBytes};
 use format::ColumnStats;
+use format::Kind;
 use format::Line;
 
 // A block's line, and the width of its residuals.
@@ -81,14 +83,14 @@ fn divide(n: u64, gcd: u64) -> u64
 }
 
 // Normalises the values from `at` on, as many as the block has room for. No other function of this file reads a value.
-fn load(values: &[u64], at: usize, minimum: u64, gcd: u64, block: &mut [u64])
-    requires { ⌜ Above minimum gcd (now values) ⌝ }
+fn load(kind: Kind, values: &[u64], at: usize, minimum: u64, gcd: u64, block: &mut [u64])
+    requires { ⌜ Above minimum gcd (storedAs kind (now values)) ⌝ }
     requires { ⌜ at + length (now block) ≤ length (now values) ⌝ }
-    ensures { λ _. ⌜ now (block .exit) ≡ normals minimum gcd (take (length (now (block .entry))) (drop at (now (values .entry)))) ⌝ }
+    ensures { λ _. ⌜ now (block .exit) ≡ normals minimum gcd (take (length (now (block .entry))) (drop at (storedAs kind (now (values .entry))))) ⌝ }
 {
     let mut i = 0;
     while i < block.len() {
-        let v = values[at + i];
+        let v = monotonic_mapping::stored_of(kind, values[at + i]);
         block[i] = divide(v - minimum, gcd);
         i += 1;
     }
@@ -102,21 +104,21 @@ fn part_size(left: usize) -> usize
 }
 
 // Loads a block and fits it.
-fn fit_part(values: &[u64], at: usize, minimum: u64, gcd: u64, block: &mut [u64]) -> Fit
-    requires { ⌜ Part minimum gcd (now values) at (length (now block)) ⌝ }
-    ensures { λ r. ⌜ Fitted (partOf minimum gcd (now (values .entry)) at (length (now (block .entry)))) (now (block .exit)) r ⌝ }
+fn fit_part(kind: Kind, values: &[u64], at: usize, minimum: u64, gcd: u64, block: &mut [u64]) -> Fit
+    requires { ⌜ Part minimum gcd (storedAs kind (now values)) at (length (now block)) ⌝ }
+    ensures { λ r. ⌜ Fitted (partOf minimum gcd (storedAs kind (now (values .entry))) at (length (now (block .entry)))) (now (block .exit)) r ⌝ }
 {
-    load(values, at, minimum, gcd, block);
+    load(kind, values, at, minimum, gcd, block);
     fit_block(block)
 }
 
 // The bytes that a block takes.
-fn part_sizes(values: &[u64], at: usize, size: usize, minimum: u64, gcd: u64) -> Sizes
-    requires { ⌜ Part minimum gcd (now values) at size ⌝ }
-    ensures { λ r. ⌜ BlockTakes (partOf minimum gcd (now (values .entry)) at size) r ⌝ }
+fn part_sizes(kind: Kind, values: &[u64], at: usize, size: usize, minimum: u64, gcd: u64) -> Sizes
+    requires { ⌜ Part minimum gcd (storedAs kind (now values)) at size ⌝ }
+    ensures { λ r. ⌜ BlockTakes (partOf minimum gcd (storedAs kind (now (values .entry))) at size) r ⌝ }
 {
     let mut block = [0u64; 512];
-    let fit = fit_part(values, at, minimum, gcd, &mut block[..size]);
+    let fit = fit_part(kind, values, at, minimum, gcd, &mut block[..size]);
     let area = bitpacker::packed_len(size, fit.bits);
     Sizes {
         area,
@@ -126,10 +128,10 @@ fn part_sizes(values: &[u64], at: usize, size: usize, minimum: u64, gcd: u64) ->
 
 // Internal: asks for fewer than 2^32 values, none below the minimum, and a gcd above 0. The bytes that all blocks of the
 // normalised values take; of the values themselves, as an estimate counts them, with minimum 0 and gcd 1.
-pub fn measure(values: &[u64], minimum: u64, gcd: u64) -> Sizes
-    requires { ⌜ Above minimum gcd (now values) ⌝ }
+pub fn measure(kind: Kind, values: &[u64], minimum: u64, gcd: u64) -> Sizes
+    requires { ⌜ Above minimum gcd (storedAs kind (now values)) ⌝ }
     requires { ⌜ length (now values) < 2 ^ 32 ⌝ }
-    ensures { λ r. ⌜ Takes (normals minimum gcd (now (values .entry))) r ⌝ }
+    ensures { λ r. ⌜ Takes (normals minimum gcd (storedAs kind (now (values .entry)))) r ⌝ }
 {
     let rows = values.len();
     let mut area: usize = 0;
@@ -137,7 +139,7 @@ pub fn measure(values: &[u64], minimum: u64, gcd: u64) -> Sizes
     let mut at: usize = 0;
     while at < rows {
         let size = part_size(rows - at);
-        let sizes = part_sizes(values, at, size, minimum, gcd);
+        let sizes = part_sizes(kind, values, at, size, minimum, gcd);
         area += sizes.area;
         footer += sizes.footer;
         at += size;
@@ -156,6 +158,7 @@ fn pack_at(rows: &[u64], bits: u8, out: &mut [u8], at: usize) -> usize
 
 // Writes a block through a buffer of its size: its residuals from `area` on, its entry from `footer` on.
 fn part_through(
+    kind: Kind,
     values: &[u64],
     at: usize,
     minimum: u64,
@@ -165,11 +168,11 @@ fn part_through(
     area: usize,
     footer: usize,
 ) -> Fronts
-    requires { ⌜ Part minimum gcd (now values) at (length (now block)) ⌝ }
-    requires { ⌜ Places (partOf minimum gcd (now values) at (length (now block))) (now out) area footer ⌝ }
-    ensures { λ r. ⌜ Placed (partOf minimum gcd (now (values .entry)) at (length (now (block .entry)))) (now (out .entry)) area footer (now (out .exit)) r ⌝ }
+    requires { ⌜ Part minimum gcd (storedAs kind (now values)) at (length (now block)) ⌝ }
+    requires { ⌜ Places (partOf minimum gcd (storedAs kind (now values)) at (length (now block))) (now out) area footer ⌝ }
+    ensures { λ r. ⌜ Placed (partOf minimum gcd (storedAs kind (now (values .entry))) at (length (now (block .entry)))) (now (out .entry)) area footer (now (out .exit)) r ⌝ }
 {
-    let fit = fit_part(values, at, minimum, gcd, block);
+    let fit = fit_part(kind, values, at, minimum, gcd, block);
     let behind = pack_at(block, fit.bits, out, area);
     let end = line::fields_write(out, footer, fit.line, fit.bits);
     Fronts {
@@ -180,6 +183,7 @@ fn part_through(
 
 // Writes the block of `size` values from `at` on: its residuals from `area` on, its entry from `footer` on.
 fn part_write(
+    kind: Kind,
     values: &[u64],
     at: usize,
     size: usize,
@@ -189,12 +193,13 @@ fn part_write(
     area: usize,
     footer: usize,
 ) -> Fronts
-    requires { ⌜ Part minimum gcd (now values) at size ⌝ }
-    requires { ⌜ Places (partOf minimum gcd (now values) at size) (now out) area footer ⌝ }
-    ensures { λ r. ⌜ Placed (partOf minimum gcd (now (values .entry)) at size) (now (out .entry)) area footer (now (out .exit)) r ⌝ }
+    requires { ⌜ Part minimum gcd (storedAs kind (now values)) at size ⌝ }
+    requires { ⌜ Places (partOf minimum gcd (storedAs kind (now values)) at size) (now out) area footer ⌝ }
+    ensures { λ r. ⌜ Placed (partOf minimum gcd (storedAs kind (now (values .entry))) at size) (now (out .entry)) area footer (now (out .exit)) r ⌝ }
 {
     let mut block = [0u64; 512];
     part_through(
+        kind,
         values,
         at,
         minimum,
@@ -209,6 +214,7 @@ fn part_write(
 // Writes all blocks' residuals from `start` on and all entries from `mid` on, behind the residuals; returns the end. Each block is
 // trained once, and its bytes go to both places at once.
 fn write_blocks(
+    kind: Kind,
     values: &[u64],
     minimum: u64,
     gcd: u64,
@@ -216,10 +222,10 @@ fn write_blocks(
     start: usize,
     mid: usize,
 ) -> usize
-    requires { ⌜ Above minimum gcd (now values) ⌝ }
-    requires { ⌜ mid ≡ start + length (areas (normals minimum gcd (now values))) ⌝ }
-    requires { ⌜ mid + length (entries (normals minimum gcd (now values))) ≤ length (now out) ⌝ }
-    ensures { λ r. ⌜ Wrote (now (out .entry)) start (areas (normals minimum gcd (now (values .entry))) ++ entries (normals minimum gcd (now (values .entry)))) (now (out .exit)) r ⌝ }
+    requires { ⌜ Above minimum gcd (storedAs kind (now values)) ⌝ }
+    requires { ⌜ mid ≡ start + length (areas (normals minimum gcd (storedAs kind (now values)))) ⌝ }
+    requires { ⌜ mid + length (entries (normals minimum gcd (storedAs kind (now values)))) ≤ length (now out) ⌝ }
+    ensures { λ r. ⌜ Wrote (now (out .entry)) start (areas (normals minimum gcd (storedAs kind (now (values .entry)))) ++ entries (normals minimum gcd (storedAs kind (now (values .entry))))) (now (out .exit)) r ⌝ }
 {
     let rows = values.len();
     let mut area = start;
@@ -227,7 +233,7 @@ fn write_blocks(
     let mut at: usize = 0;
     while at < rows {
         let size = part_size(rows - at);
-        let fronts = part_write(values, at, size, minimum, gcd, out, area, footer);
+        let fronts = part_write(kind, values, at, size, minimum, gcd, out, area, footer);
         area = fronts.area;
         footer = fronts.footer;
         at += size;
@@ -277,11 +283,11 @@ pub fn body_len(stats: ColumnStats, sizes: Sizes) -> usize
 
 // Internal: asks for the values' own statistics. The size that choosing goes by: blocks of the values as they stand, less what the
 // gcd is thought to save.
-pub fn estimate(values: &[u64], stats: ColumnStats) -> u64
-    requires { ⌜ Describes stats (now values) ⌝ }
-    ensures { λ r. ⌜ some r ≡ sizeOf 2 stats (now (values .entry)) ⌝ }
+pub fn estimate(kind: Kind, values: &[u64], stats: ColumnStats) -> u64
+    requires { ⌜ Describes stats (storedAs kind (now values)) ⌝ }
+    ensures { λ r. ⌜ some r ≡ sizeOf 2 stats (storedAs kind (now (values .entry))) ⌝ }
 {
-    let sizes = measure(values, 0, 1);
+    let sizes = measure(kind, values, 0, 1);
     let whole = body_len(stats, sizes) as u64;
     let less = saving_of(stats.gcd, stats.rows);
     if whole < less { 0 } else { whole - less }
@@ -290,19 +296,20 @@ pub fn estimate(values: &[u64], stats: ColumnStats) -> u64
 // Internal: asks for the values' own statistics, what their blocks take, and room. Writes the body at an offset, and returns the
 // offset behind it: the head, all blocks' residuals, the footer, and its length in four bytes, which it never outgrows.
 pub fn serialize(
+    kind: Kind,
     values: &[u64],
     stats: ColumnStats,
     sizes: Sizes,
     out: &mut [u8],
     at: usize,
 ) -> usize
-    requires { ⌜ Describes stats (now values) ⌝ }
-    requires { ⌜ Takes (map (normalised stats) (now values)) sizes ⌝ }
-    requires { ⌜ at + length (blockwise stats (now values)) ≤ length (now out) ⌝ }
-    ensures { λ r. ⌜ Wrote (now (out .entry)) at (blockwise stats (now (values .entry))) (now (out .exit)) r ⌝ }
+    requires { ⌜ Describes stats (storedAs kind (now values)) ⌝ }
+    requires { ⌜ Takes (map (normalised stats) (storedAs kind (now values))) sizes ⌝ }
+    requires { ⌜ at + length (blockwise stats (storedAs kind (now values))) ≤ length (now out) ⌝ }
+    ensures { λ r. ⌜ Wrote (now (out .entry)) at (blockwise stats (storedAs kind (now (values .entry)))) (now (out .exit)) r ⌝ }
 {
     let start = stats::head_write(out, at, stats);
     let mid = start + sizes.area;
-    let end = write_blocks(values, stats.minimum, stats.gcd, out, start, mid);
+    let end = write_blocks(kind, values, stats.minimum, stats.gcd, out, start, mid);
     put_four(out, end, sizes.footer as u32)
 }

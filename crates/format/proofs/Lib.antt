@@ -26,6 +26,11 @@ pub mod Laid
 pub mod Elsewhere
 pub mod Rows
 pub mod Lookups
+-- columns of other kinds
+pub mod Mappings
+pub mod FloatOrder
+pub mod StoredLists
+pub mod TypedLookups
 -- writing
 pub mod RoundTrip
 pub mod Choosing
@@ -38,9 +43,11 @@ pub mod WrittenBytes
 -- the demands
 pub mod Demand2
 pub mod Demand3
+pub mod TypedDemands
 pub mod Example
 -- cases, computed
 pub mod Asking
 pub mod RuleCases
 pub mod LongCases
 pub mod Cases
+pub mod TypedCases

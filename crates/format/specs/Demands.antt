@@ -5,6 +5,7 @@ use mathlib.Core.Path.{_≡_}
 use mathlib.Core.Logic.{_⊎_}
 use mathlib.Core.List.{List, [], _∷_}
 use lib.ListN.{length, getD}
+use Rattle.format.specs.declared.Kind.{Kind}
 use Rattle.format.specs.Outcome.{Outcome, Outcome.value, Outcome.refusal, stored}
 use Rattle.format.specs.Word.{AllBelow}
 use Rattle.format.specs.Packing.{bitAt}
@@ -13,6 +14,7 @@ use Rattle.format.specs.Writing.{written}
 use Rattle.format.specs.Opening.{Loaded, opened}
 use Rattle.format.specs.Reading.{rowAt, placeOf, blockAt}
 use Rattle.format.specs.Lookup.{lookedUp, within}
+use Rattle.format.specs.Typed.{storedAs, readAs, readingOf, meant, lies, between, signedOf, flagOf, floatOf}
 
 -- a lent table after an opening that filled it
 abbrev pub filledBy : Loaded → (table : List ℕ) → List ℕ
@@ -117,3 +119,45 @@ Tell =
 -- demand 3
 abbrev pub Demand3 : Type 0
 Demand3 = Inside × Apart × Tell
+
+-- ---- both, of columns of other kinds
+
+-- an opened column gives back a list of values of a kind: as many rows, each row's value, and every lookup by values
+pub record GivesBackAs (kind : Kind) (xs bytes table : List ℕ) (o : Loaded) : Type 0 where
+  pub count : o .column .rows ≡ length xs
+  pub rows : (r : ℕ) → r < length xs → readAs (readingOf kind .value) (answered o table bytes r) ≡ value (meant kind (getD xs r 0))
+  pub found : (low high : readingOf kind .Value) (first end room : ℕ)
+      → lookedUp (answered o table bytes) (o .column .rows) (between (readingOf kind) low high) first end room
+      ≡ lookedUp (readsAs xs) (length xs) (λ x. lies (readingOf kind) low high (meant kind x)) first end room
+
+-- what was written of such a list opens, and gives it back
+abbrev pub ReturnsAs : Kind → Type 0
+ReturnsAs kind =
+    (xs cs bytes table : List ℕ) (room : ℕ) → AllBelow (2 ^ 64) xs → written (storedAs kind xs) cs room ≡ value bytes
+    → 4 * blockCount (length xs) ≤ length table
+    → (o : Loaded) × (opened bytes (length table / 4) ≡ value o) × GivesBackAs kind xs bytes table o
+
+-- what two answers for a row read as differs, unless both are 14
+abbrev pub DifferAs : {A : Type 0} → (read : ℕ → A) (r : ℕ) (a b : Outcome ℕ) → Type 0
+DifferAs read r a b = (readAs read a ≡ readAs read b → ⊥) ⊎ ((a ≡ refusal 14 (r ∷ [])) × (b ≡ refusal 14 (r ∷ [])))
+
+-- two answers are both values above 0
+pub record BothTrue (a b : Outcome ℕ) : Type 0 where
+  pub one : ℕ
+  pub other : ℕ
+  pub is-one : a ≡ value one
+  pub is-other : b ≡ value other
+  pub above : 0 < one
+  pub above-too : 0 < other
+
+-- answers that differ, unless both are 14, differ as signed numbers and as floats too, and as bools unless both stored numbers are above 0
+pub record TellAs (r : ℕ) (a b : Outcome ℕ) : Type 0 where
+  pub signed : DifferAs signedOf r a b
+  pub float : DifferAs floatOf r a b
+  pub flag : DifferAs flagOf r a b ⊎ BothTrue a b
+
+-- a row whose bits differ answers so
+abbrev pub TellTyped : Type 0
+TellTyped =
+    (s t table other : List ℕ) (o p : Loaded) → opened s (length table / 4) ≡ value o → opened t (length other / 4) ≡ value p → Alike s t o
+    → (r : ℕ) → r < o .column .rows → (SameBits o s t r → ⊥) → TellAs r (answered o table s r) (answered p other t r)

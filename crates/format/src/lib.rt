@@ -123,6 +123,22 @@ pub struct Fields {
     pub next: usize,
 }
 
+// What the values of a column are. A list of them is lent as words: a signed number or a date by its two's complement bits, a float by
+// its bits, since a NaN's bits are no number of the language, a bool as 0 or any other word.
+pub enum Kind {
+    U64,
+    I64,
+    Date,
+    Bool,
+    F64,
+}
+
+// The first and the last stored number of a range.
+pub struct Range {
+    pub low: u64,
+    pub high: u64,
+}
+
 // What the entry points answer (specs/Refusals.antt says what each case means).
 
 // Statistics of a list.
@@ -145,6 +161,24 @@ pub enum Opened {
 
 // Reading a row.
 pub enum RowRead {
+    Value(u64),
+    Refused(Refusal),
+}
+
+// The same of a column of signed numbers or dates,
+pub enum SignedRead {
+    Value(i64),
+    Refused(Refusal),
+}
+
+// of bools,
+pub enum FlagRead {
+    Value(bool),
+    Refused(Refusal),
+}
+
+// and of floats, each by its bits.
+pub enum FloatRead {
     Value(u64),
     Refused(Refusal),
 }

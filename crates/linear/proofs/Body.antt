@@ -4,22 +4,28 @@
 --     area-room         behind the fields there is room for the area
 --     area-packable     the residuals can be packed where there is
 --     body-wrote        the head, the fields and the area, one behind the other
+--     left-count, left-is
+--                       what is left of values that are lent as words
 -- Assumes nothing.
-use mathlib.Core.Path.{_≡_}
+use mathlib.Core.Path.{_≡_, sym, ap, _∙_}
 use mathlib.Core.List.{List, [], _∷_, _++_, append-assoc}
-use Prim.Native.Nat.{ℕ, _+_, _*_, _≤_}
+use Prim.Native.Nat.{ℕ, _+_, _*_, _≤_, _<_}
 use native.Mathlib.Omega.{arith}
-use lib.ListN.{length, length-append}
+use lib.ListN.{length, getD, length-append}
 use Rattle.format.specs.declared.ColumnStats.{ColumnStats}
 use Rattle.format.specs.Outcome.{Wrote}
-use Rattle.format.specs.Word.{bytesFor}
+use Rattle.format.specs.declared.Kind.{Kind}
+use Rattle.format.specs.declared.Line.{Line}
+use Rattle.format.specs.Word.{modSub, bytesFor}
 use Rattle.format.specs.Packing.{packed}
 use Rattle.format.specs.Stats.{spellHead}
-use Rattle.format.specs.Line.{residuals, spellLine}
+use Rattle.format.specs.Line.{lineAt, residuals, spellLine}
 use Rattle.format.specs.Bodies.{linear, linearWidth}
+use Rattle.format.specs.Typed.{storedIn, storedAs}
 use Rattle.format.proofs.Widths.{width-most}
 use Rattle.format.proofs.Stores.{wrote-then}
-use Rattle.format.proofs.Lines.{residuals-length}
+use Rattle.format.proofs.StoredLists.{stored-length, stored-is, stored-there}
+use Rattle.format.proofs.Lines.{residuals-length, residual-at}
 use Rattle.bitpacker.specs.Packer.{Packable}
 use Rattle.bitpacker.proofs.PackerLaws.{packed-count}
 use Rattle.linear.specs.declared.writer.Fit.{Fit}
@@ -62,3 +68,13 @@ module _ {vs : List ℕ} {fit : Fit} (f : Fits vs fit) where
   body-wrote s head fields area =
       let rest = packed (fit .bits) (residuals (fit .line) vs) in
       rw (← f .line, ← f .bits) (wrote-then head (rw (append-assoc (spellLine (fit .line)) (fit .bits ∷ []) rest) at (wrote-then fields area)))
+
+-- ---- what is left of values that are lent as words
+
+module _ (l : Line) (kind : Kind) (xs : List ℕ) where
+  pub left-count : length (residuals l (storedAs kind xs)) ≡ length xs
+  left-count = residuals-length l (storedAs kind xs) ∙ stored-length kind xs
+
+  pub left-is : (i : ℕ) {v d : ℕ} → i < length xs → v ≡ storedIn kind (getD xs i 0) → d ≡ modSub v (lineAt l i) → d ≡ getD (residuals l (storedAs kind xs)) i 0
+  left-is i h e is =
+      is ∙ ap (λ (y : ℕ). modSub y (lineAt l i)) (stored-is kind xs i h e) ∙ sym (residual-at l (storedAs kind xs) i (stored-there kind xs i h))

@@ -1,4 +1,4 @@
-// Writing: the fit, the estimate that it gives, and the body.
+// Writing: the fit, the estimate that it gives, and the body. A value is read as the number that its kind is stored as.
 ghost use mathlib.Core.Path.{_≡_};
 ghost use mathlib.Core.List.{_++_};
 ghost use Prim.Native.Nat.{_+_, _*_, _≤_, _<_};
@@ -9,11 +9,13 @@ ghost use Rattle.format.specs.Packing.{packed};
 ghost use Rattle.format.specs.Stats.{spellHead};
 ghost use Rattle.format.specs.Line.{lineAt, residuals, spellLine};
 ghost use Rattle.format.specs.Bodies.{half, firstLine, linear};
+ghost use Rattle.format.specs.Typed.{storedAs};
 ghost use Rattle.bitpacker.specs.Packer.{Packable};
 ghost use Rattle.stats.specs.Asked.{Sound, Describes};
 ghost use Rattle.linear.specs.Writer.{Spreads, Fits};
 use bitpacker::BitPacker;
 use format::ColumnStats;
+use format::Kind;
 use format::Line;
 
 // 2^63 - 1, by which residuals are moved up before they are compared: one a little below the line stays small too.
@@ -39,17 +41,17 @@ fn deviation(line: Line, x: u64, y: u64) -> u64
 }
 
 // The spread of all values around a line.
-fn spread_of(values: &[u64], line: Line) -> Spread
+fn spread_of(kind: Kind, values: &[u64], line: Line) -> Spread
     requires { ⌜ 0 < length (now values) ⌝ }
-    ensures { λ r. ⌜ Spreads line (now (values .entry)) r ⌝ }
+    ensures { λ r. ⌜ Spreads line (storedAs kind (now (values .entry))) r ⌝ }
 {
     let rows = values.len();
-    let first = deviation(line, 0, values[0]);
+    let first = deviation(line, 0, monotonic_mapping::stored_of(kind, values[0]));
     let mut low = first;
     let mut high = first;
     let mut i = 1;
     while i < rows {
-        let v = values[i];
+        let v = monotonic_mapping::stored_of(kind, values[i]);
         let d = deviation(line, i as u64, v);
         low = word::lesser(low, d);
         high = word::larger(high, d);
@@ -59,14 +61,14 @@ fn spread_of(values: &[u64], line: Line) -> Spread
 }
 
 // The line that training on the first 512 values gives. They go through a buffer: no part of the values is lent on.
-fn first_line(values: &[u64]) -> Line
+fn first_line(kind: Kind, values: &[u64]) -> Line
     requires { ⌜ 512 ≤ length (now values) ⌝ }
-    ensures { λ r. ⌜ r ≡ firstLine (now (values .entry)) ⌝ }
+    ensures { λ r. ⌜ r ≡ firstLine (storedAs kind (now (values .entry))) ⌝ }
 {
     let mut first = [0u64; 512];
     let mut i = 0;
     while i < 512 {
-        let v = values[i];
+        let v = monotonic_mapping::stored_of(kind, values[i]);
         first[i] = v;
         i += 1;
     }
@@ -74,12 +76,12 @@ fn first_line(values: &[u64]) -> Line
 }
 
 // Internal: asks for 512 values at least. Fits a line to them all.
-pub fn fit_of(values: &[u64]) -> Fit
+pub fn fit_of(kind: Kind, values: &[u64]) -> Fit
     requires { ⌜ 512 ≤ length (now values) ⌝ }
-    ensures { λ r. ⌜ Fits (now (values .entry)) r ⌝ }
+    ensures { λ r. ⌜ Fits (storedAs kind (now (values .entry))) r ⌝ }
 {
-    let first = first_line(values);
-    let spread = spread_of(values, first);
+    let first = first_line(kind, values);
+    let spread = spread_of(kind, values, first);
     let raised = word::add(first.intercept, spread.low);
     let line = Line {
         slope: first.slope,
@@ -99,15 +101,15 @@ pub fn estimate(stats: ColumnStats, fit: Fit) -> usize
 }
 
 // Packs what is left of the values above a line to the front of the output.
-fn pack_residuals(values: &[u64], line: Line, bits: u8, out: &mut [u8])
-    requires { ⌜ Packable bits (residuals line (now values)) (now out) ⌝ }
-    ensures { λ _. ⌜ now (out .exit) ≡ packed bits (residuals line (now (values .entry))) ++ drop (bytesFor (bits * length (now (values .entry)))) (now (out .entry)) ⌝ }
+fn pack_residuals(kind: Kind, values: &[u64], line: Line, bits: u8, out: &mut [u8])
+    requires { ⌜ Packable bits (residuals line (storedAs kind (now values))) (now out) ⌝ }
+    ensures { λ _. ⌜ now (out .exit) ≡ packed bits (residuals line (storedAs kind (now (values .entry)))) ++ drop (bytesFor (bits * length (now (values .entry)))) (now (out .entry)) ⌝ }
 {
     let rows = values.len();
     let mut packer = BitPacker::new();
     let mut i = 0;
     while i < rows {
-        let v = values[i];
+        let v = monotonic_mapping::stored_of(kind, values[i]);
         packer = packer.write(out, line::residual(line, i as u64, v), bits);
         i += 1;
     }
@@ -115,16 +117,23 @@ fn pack_residuals(values: &[u64], line: Line, bits: u8, out: &mut [u8])
 }
 
 // Internal: asks for the values' own statistics and fit, and for room. Writes the body at an offset, and returns the offset behind it.
-pub fn serialize(values: &[u64], stats: ColumnStats, fit: Fit, out: &mut [u8], at: usize) -> usize
-    requires { ⌜ Describes stats (now values) ⌝ }
-    requires { ⌜ Fits (now values) fit ⌝ }
-    requires { ⌜ at + length (linear stats (now values)) ≤ length (now out) ⌝ }
-    ensures { λ r. ⌜ Wrote (now (out .entry)) at (linear stats (now (values .entry))) (now (out .exit)) r ⌝ }
+pub fn serialize(
+    kind: Kind,
+    values: &[u64],
+    stats: ColumnStats,
+    fit: Fit,
+    out: &mut [u8],
+    at: usize,
+) -> usize
+    requires { ⌜ Describes stats (storedAs kind (now values)) ⌝ }
+    requires { ⌜ Fits (storedAs kind (now values)) fit ⌝ }
+    requires { ⌜ at + length (linear stats (storedAs kind (now values))) ≤ length (now out) ⌝ }
+    ensures { λ r. ⌜ Wrote (now (out .entry)) at (linear stats (storedAs kind (now (values .entry)))) (now (out .exit)) r ⌝ }
 {
     let line = fit.line;
     let bits = fit.bits;
     let behind = stats::head_write(out, at, stats);
     let start = line::fields_write(out, behind, line, bits);
-    pack_residuals(values, line, bits, &mut out[start..]);
+    pack_residuals(kind, values, line, bits, &mut out[start..]);
     start + bitpacker::packed_len(values.len(), bits)
 }

@@ -7,12 +7,14 @@ ghost use Rattle.format.specs.Outcome.{Wrote};
 ghost use Rattle.format.specs.Refusals.{rowMeaning};
 ghost use Rattle.format.specs.Reading.{scaled};
 ghost use Rattle.format.specs.Stats.{gcd, distance, statsOf, countOf, spellHead, readHead};
+ghost use Rattle.format.specs.Typed.{storedAs};
 ghost use Rattle.stats.specs.Meaning.{headMeaning};
 ghost use Rattle.stats.specs.Asked.{Sound};
 use format::Column;
 use format::ColumnRow;
 use format::ColumnStats;
 use format::Head;
+use format::Kind;
 use format::Refusal;
 use format::RowRead;
 use vint::VintRead;
@@ -47,10 +49,10 @@ fn apart(a: u64, b: u64) -> u64
     if a < b { b - a } else { a - b }
 }
 
-// Internal: asks for fewer than 2^32 values. Their statistics.
-pub fn collect(values: &[u64]) -> ColumnStats
+// Internal: asks for fewer than 2^32 values. The statistics of the numbers that they are stored as.
+pub fn collect(kind: Kind, values: &[u64]) -> ColumnStats
     requires { ⌜ length (now values) < 2 ^ 32 ⌝ }
-    ensures { λ r. ⌜ r ≡ statsOf (now (values .entry)) ⌝ }
+    ensures { λ r. ⌜ r ≡ statsOf (storedAs kind (now (values .entry))) ⌝ }
 {
     let n = values.len();
     if n == 0 {
@@ -61,13 +63,13 @@ pub fn collect(values: &[u64]) -> ColumnStats
             rows: 0,
         };
     }
-    let first = values[0];
+    let first = monotonic_mapping::stored_of(kind, values[0]);
     let mut lo = first;
     let mut hi = first;
     let mut g = 0;
     let mut i = 1;
     while i < n {
-        let v = values[i];
+        let v = monotonic_mapping::stored_of(kind, values[i]);
         lo = word::lesser(lo, v);
         hi = word::larger(hi, v);
         g = joined(apart(v, first), g);

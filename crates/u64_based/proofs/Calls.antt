@@ -1,5 +1,6 @@
 -- The demands, of the calls' own answers: from the contracts of `serialize`, `open`, `row` and `lookup`, and the theorems of `format`.
 --     Opens, opens                       what an answer of `open` that is a column comes from
+--     reads, written-of, front-of        what a call left is what was found
 --     own-rows                           an opened column answers its own rows with a value or 14: never 12, never 13
 --     Returned, calls-return             demand 2: what was written opens, and `row` and `lookup` give the values back
 --     Told, calls-tell                   demand 3: what `row` answers depends on its row's own bits, and tells every change of them
@@ -59,7 +60,7 @@ opens s table after c r =
     (o .0, record { found = o .1; column = o .2; filled = o .3 })
 
 -- reading with what the call left is the demands' reading
-reads : {s table after : List ℕ} {c : Column} {o : Loaded} → Opens s table after c o → (r : ℕ) → rowAt c after s r ≡ answered o table s r
+pub reads : {s table after : List ℕ} {c : Column} {o : Loaded} → Opens s table after c o → (r : ℕ) → rowAt c after s r ≡ answered o table s r
 reads {s} {table} {after} {c} {o} e r = rw (e .filled, ← (e .column))
 
 -- the rows of an opened column answer a value or 14
@@ -76,7 +77,7 @@ own-rows s table after c opened-as r h a e =
 -- ---- demand 2
 
 -- what an answer of `serialize` that is a length comes from: a column, which now stands at the output's front
-written-of : (x : Outcome (List ℕ)) (before after : List ℕ) (n : ℕ) → SerializedAs x (Length n) before after
+pub written-of : (x : Outcome (List ℕ)) (before after : List ℕ) (n : ℕ) → SerializedAs x (Length n) before after
     → (bytes : List ℕ) × (x ≡ value bytes) × (n ≡ length bytes) × (after ≡ sets before 0 bytes)
 written-of (value bytes) before after n r =
     let e : value n ≡ value (length bytes) = r .answer in
@@ -116,7 +117,7 @@ returned vs cs bytes table after room each e enough a opened-as =
     }
 
 -- a column at an output's front
-front-of : (out after bytes : List ℕ) (n : ℕ) → n ≡ length bytes → after ≡ sets out 0 bytes → length bytes ≤ length out → take n after ≡ bytes
+pub front-of : (out after bytes : List ℕ) (n : ℕ) → n ≡ length bytes → after ≡ sets out 0 bytes → length bytes ≤ length out → take n after ≡ bytes
 front-of out after bytes n e f h = rw (e, f, sets-eq bytes out 0 (omega arith)) (take-at bytes (drop (0 + length bytes) out) (length bytes) refl)
 
 -- demand 2, of the calls: what `serialize` wrote, opened with any table that has room, gives back the list

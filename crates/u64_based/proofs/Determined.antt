@@ -1,5 +1,5 @@
 -- The contracts of the entry points determine what they answer and what every lent entry holds afterwards: two results that they allow coincide.
---     stats-determined, serialize-determined, open-plain-determined, open-determined, row-determined, lookup-determined
+--     stats-determined, serialize-determined, stats-as-determined, serialize-as-determined, open-plain-determined, open-determined, row-determined, lookup-determined
 -- Assumes nothing.
 use Prim.Native.Nat.{ℕ, _/_}
 use mathlib.Core.Path.{_≡_, sym, _∙_}
@@ -7,6 +7,7 @@ use mathlib.Core.List.{List}
 use lib.ListN.{length}
 use Rattle.format.specs.declared.Column.{Column}
 use Rattle.format.specs.declared.Found.{Found}
+use Rattle.format.specs.declared.Kind.{Kind}
 use Rattle.format.specs.declared.Opened.{Opened}
 use Rattle.format.specs.declared.RowRead.{RowRead}
 use Rattle.format.specs.declared.Stated.{Stated}
@@ -16,6 +17,7 @@ use Rattle.format.specs.Opening.{opened, columnIn}
 use Rattle.format.specs.Reading.{rowAt}
 use Rattle.format.specs.Refusals.{statedMeaning, openedMeaning, rowMeaning}
 use Rattle.format.specs.Stats.{stated}
+use Rattle.format.specs.Typed.{storedAs}
 use Rattle.format.specs.Writing.{written}
 use Rattle.format.proofs.Answers.{stated-injective, written-injective, opened-injective, row-injective, found-injective}
 use Rattle.u64_based.specs.Calls.{SerializedAs, OpenedAs, FoundAs}
@@ -28,6 +30,15 @@ stats-determined values a b p q = stated-injective a b (p ∙ sym q)
 pub serialize-determined : (values codecs out : List ℕ) (a b : Written) (after after′ : List ℕ)
     → SerializedAs (written values codecs (length out)) a out after → SerializedAs (written values codecs (length out)) b out after′ → (a ≡ b) × (after ≡ after′)
 serialize-determined values codecs out a b after after′ p q = (written-injective a b (p .answer ∙ sym (q .answer)), p .list ∙ sym (q .list))
+
+-- the same of values of a kind
+pub stats-as-determined : (kind : Kind) (values : List ℕ) (a b : Stated) → statedMeaning a ≡ stated (storedAs kind values) → statedMeaning b ≡ stated (storedAs kind values) → a ≡ b
+stats-as-determined kind values = stats-determined (storedAs kind values)
+
+pub serialize-as-determined : (kind : Kind) (values codecs out : List ℕ) (a b : Written) (after after′ : List ℕ)
+    → SerializedAs (written (storedAs kind values) codecs (length out)) a out after → SerializedAs (written (storedAs kind values) codecs (length out)) b out after′
+    → (a ≡ b) × (after ≡ after′)
+serialize-as-determined kind values = serialize-determined (storedAs kind values)
 
 -- two answers of `open_plain`
 pub open-plain-determined : (s : List ℕ) (room : ℕ) (a b : Opened) → openedMeaning a ≡ columnIn (opened s room) → openedMeaning b ≡ columnIn (opened s room) → a ≡ b

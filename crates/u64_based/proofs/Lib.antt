@@ -16,4 +16,5 @@ pub mod Looking
 -- what the contracts come to
 pub mod Determined
 pub mod Calls
+pub mod TypedCalls
 pub mod Cases

@@ -2,9 +2,10 @@
 --     too-short, put-behind                                an output that is too short; the code byte, and the body behind it
 --     chosen-apt                                           a chosen codec has the numbers to write by
 --     too-many, unknown-byte, none-applies, written-by     what the entry point comes to
+--     numbers-written                                      numbers are stored as they are
 -- Assumes nothing.
 use Prim.Native.Nat.{ℕ, suc, _+_, _^_, _≤_, _<_}
-use mathlib.Core.Path.{_≡_, sym, ap, _∙_}
+use mathlib.Core.Path.{_≡_, sym, ap, _∙_, subst}
 use mathlib.Core.Option.{Option, none, some}
 use mathlib.Core.List.{List, _∷_}
 use native.Mathlib.Omega.{arith}
@@ -12,6 +13,7 @@ use borrow.Author.Tests.{le-leb, lt-leb, lt-ltb, le-ltb}
 use lib.ListN.{length, set}
 use Rattle.format.specs.declared.Codec.{Codec}
 use Rattle.format.specs.declared.ColumnStats.{ColumnStats}
+use Rattle.format.specs.declared.Kind.the-variants.{U64}
 use Rattle.format.specs.declared.Refusal.the-variants.{TooManyValues, UnknownCodec, NoCodecApplies, OutputShort}
 use Rattle.format.specs.declared.Written.{Written}
 use Rattle.format.specs.declared.Written.the-variants.{Length, Refused}
@@ -20,7 +22,9 @@ use Rattle.format.specs.Stats.{statsOf}
 use Rattle.format.specs.Listing.{codeOf}
 use Rattle.format.specs.Bodies.{columnBy}
 use Rattle.format.specs.Writing.{Sized, sizeOf, chosen, known, written}
+use Rattle.format.specs.Typed.{storedAs}
 use Rattle.format.proofs.Outcomes.{told}
+use Rattle.format.proofs.StoredLists.{stored-numbers}
 use Rattle.u64_based.specs.declared.choice.Best.{Best}
 use Rattle.u64_based.specs.declared.choice.Best.the-variants.{Nothing, Least}
 use Rattle.u64_based.specs.declared.choice.Place.{Place}
@@ -79,3 +83,8 @@ module _ (vs cs old : List ℕ) where
       written-by {codec} {size} is left =
           let chose : chosen (λ c. sizeOf c (statsOf vs) vs) cs ≡ some (record { codec = codeOf codec; size = size }) = choice ∙ ap bestMeaning is in
           rw (lt-ltb (length vs) (2 ^ 32) few, told placeMeaning sought nowhere, chose) left
+
+-- numbers are stored as they are
+pub numbers-written : (vs cs : List ℕ) (room : ℕ) {r : Written} {before after : List ℕ}
+    → SerializedAs (written (storedAs U64 vs) cs room) r before after → SerializedAs (written vs cs room) r before after
+numbers-written vs cs room {r} {before} {after} = subst (λ (xs : List ℕ). SerializedAs (written xs cs room) r before after) (stored-numbers vs)

@@ -7,10 +7,12 @@ ghost use mathlib.Core.List.{List};
 ghost use Prim.Native.Nat.{ℕ, _≤_};
 ghost use Rattle.format.specs.Outcome.{Outcome.value};
 ghost use Rattle.format.specs.Writing.{sizeOf, smaller, chosen, known};
+ghost use Rattle.format.specs.Typed.{storedAs};
 ghost use Rattle.stats.specs.Asked.{Describes};
 ghost use Rattle.u64_based.specs.Choice.{placeMeaning, bestMeaning, Apt, Stands, sizedBy, metIn, marking, Walked};
 use format::Codec;
 use format::ColumnStats;
+use format::Kind;
 
 // A place in the list.
 pub(crate) enum Place {
@@ -68,14 +70,14 @@ fn smaller_of(a: Best, b: Best) -> Best
 }
 
 // Linear with its size, where it applies.
-fn sized_linear(values: &[u64], stats: ColumnStats) -> Best
-    requires { ⌜ Describes stats (now values) ⌝ }
-    ensures { λ r. ⌜ Stands (now (values .entry)) (sizedBy stats (now (values .entry)) 1) r ⌝ }
+fn sized_linear(kind: Kind, values: &[u64], stats: ColumnStats) -> Best
+    requires { ⌜ Describes stats (storedAs kind (now values)) ⌝ }
+    ensures { λ r. ⌜ Stands (storedAs kind (now (values .entry))) (sizedBy stats (storedAs kind (now (values .entry))) 1) r ⌝ }
 {
     if values.len() < 512 {
         return Best::Nothing;
     }
-    let fit = linear::writer::fit_of(values);
+    let fit = linear::writer::fit_of(kind, values);
     let size = linear::writer::estimate(stats, fit) as u64;
     let line = fit.line;
     let codec = Codec::Linear(line, fit.bits);
@@ -83,10 +85,10 @@ fn sized_linear(values: &[u64], stats: ColumnStats) -> Best
 }
 
 // A codec with its size, where it applies.
-fn sized(values: &[u64], stats: ColumnStats, code: u8) -> Best
-    requires { ⌜ Describes stats (now values) ⌝ }
+fn sized(kind: Kind, values: &[u64], stats: ColumnStats, code: u8) -> Best
+    requires { ⌜ Describes stats (storedAs kind (now values)) ⌝ }
     requires { ⌜ code ≤ 2 ⌝ }
-    ensures { λ r. ⌜ Stands (now (values .entry)) (sizedBy stats (now (values .entry)) code) r ⌝ }
+    ensures { λ r. ⌜ Stands (storedAs kind (now (values .entry))) (sizedBy stats (storedAs kind (now (values .entry))) code) r ⌝ }
 {
     match code {
         0 => {
@@ -96,9 +98,9 @@ fn sized(values: &[u64], stats: ColumnStats, code: u8) -> Best
                 size,
             }
         }
-        1 => sized_linear(values, stats),
+        1 => sized_linear(kind, values, stats),
         _ => {
-            let size = blockwise_linear::writer::estimate(values, stats);
+            let size = blockwise_linear::writer::estimate(kind, values, stats);
             Best::Least {
                 codec: Codec::Blockwise,
                 size,
@@ -144,18 +146,18 @@ fn marked(met: Met, code: u8) -> Met
 }
 
 // One listed codec further.
-fn advance(values: &[u64], stats: ColumnStats, walk: Walk, code: u8) -> Walk
-    requires { ⌜ Describes stats (now values) ⌝ }
+fn advance(kind: Kind, values: &[u64], stats: ColumnStats, walk: Walk, code: u8) -> Walk
+    requires { ⌜ Describes stats (storedAs kind (now values)) ⌝ }
     requires { ⌜ code ≤ 2 ⌝ }
-    requires { ⌜ Walked stats (now values) walk ⌝ }
-    ensures { λ r. ⌜ Walked stats (now (values .entry)) r × (bestMeaning (r .best) ≡ smaller (bestMeaning (walk .best)) (sizedBy stats (now (values .entry)) code)) ⌝ }
+    requires { ⌜ Walked stats (storedAs kind (now values)) walk ⌝ }
+    ensures { λ r. ⌜ Walked stats (storedAs kind (now (values .entry))) r × (bestMeaning (r .best) ≡ smaller (bestMeaning (walk .best)) (sizedBy stats (storedAs kind (now (values .entry))) code)) ⌝ }
 {
     let best = walk.best;
     let met = walk.met;
     if is_met(met, code) {
         return walk;
     }
-    let better = smaller_of(best, sized(values, stats, code));
+    let better = smaller_of(best, sized(kind, values, stats, code));
     let more = marked(met, code);
     Walk {
         best: better,
@@ -164,10 +166,10 @@ fn advance(values: &[u64], stats: ColumnStats, walk: Walk, code: u8) -> Walk
 }
 
 // Internal: asks for the values' own statistics, and that each byte of the list names a codec. The listed codec that takes least.
-pub(crate) fn choose(values: &[u64], stats: ColumnStats, codecs: &[u8]) -> Best
-    requires { ⌜ Describes stats (now values) ⌝ }
+pub(crate) fn choose(kind: Kind, values: &[u64], stats: ColumnStats, codecs: &[u8]) -> Best
+    requires { ⌜ Describes stats (storedAs kind (now values)) ⌝ }
     requires { ⌜ known 0 (now codecs) ≡ value tt ⌝ }
-    ensures { λ r. ⌜ Stands (now (values .entry)) (chosen (λ c. sizeOf c stats (now (values .entry))) (now (codecs .entry))) r ⌝ }
+    ensures { λ r. ⌜ Stands (storedAs kind (now (values .entry))) (chosen (λ c. sizeOf c stats (storedAs kind (now (values .entry)))) (now (codecs .entry))) r ⌝ }
 {
     let mut walk = Walk {
         best: Best::Nothing,
@@ -179,7 +181,7 @@ pub(crate) fn choose(values: &[u64], stats: ColumnStats, codecs: &[u8]) -> Best
     };
     let mut i = 0;
     while i < codecs.len() {
-        walk = advance(values, stats, walk, codecs[i]);
+        walk = advance(kind, values, stats, walk, codecs[i]);
         i += 1;
     }
     walk.best

@@ -15,12 +15,14 @@ ghost use Rattle.format.specs.Writing.{written};
 ghost use Rattle.format.specs.Opening.{columnIn, opened};
 ghost use Rattle.format.specs.Lookup.{lookedUp, within};
 ghost use Rattle.format.specs.Reading.{rowAt};
+ghost use Rattle.format.specs.Typed.{storedAs};
 ghost use Rattle.u64_based.specs.Calls.{SerializedAs, OpenedAs, FoundAs};
 use choice::Best;
 use choice::Place;
 use format::Column;
 use format::ColumnRow;
 use format::Found;
+use format::Kind;
 use format::Opened;
 use format::Refusal;
 use format::RowRead;
@@ -32,15 +34,30 @@ use stats::HeadRead;
 pub fn column_stats(values: &[u64]) -> Stated
     ensures { λ r. ⌜ statedMeaning r ≡ stated (now (values .entry)) ⌝ }
 {
+    column_stats_as(Kind::U64, values)
+}
+
+// The statistics of the numbers that values of a kind are stored as.
+pub fn column_stats_as(kind: Kind, values: &[u64]) -> Stated
+    ensures { λ r. ⌜ statedMeaning r ≡ stated (storedAs kind (now (values .entry))) ⌝ }
+{
     if 0xffff_ffff < values.len() {
         return Stated::Refused(Refusal::TooManyValues);
     }
-    Stated::Stats(stats::collect(values))
+    Stated::Stats(stats::collect(kind, values))
 }
 
 // Writes the values by the listed codec that takes least.
 pub fn serialize(values: &[u64], codecs: &[u8], out: &mut [u8]) -> Written
     ensures { λ r. ⌜ SerializedAs (written (now (values .entry)) (now (codecs .entry)) (length (now (out .entry)))) r (now (out .entry)) (now (out .exit)) ⌝ }
+{
+    serialize_as(Kind::U64, values, codecs, out)
+}
+
+// Writes values of a kind, as the numbers that they are stored as. Each pass over them reads a value as its stored number; no list of
+// those is made.
+pub fn serialize_as(kind: Kind, values: &[u64], codecs: &[u8], out: &mut [u8]) -> Written
+    ensures { λ r. ⌜ SerializedAs (written (storedAs kind (now (values .entry))) (now (codecs .entry)) (length (now (out .entry)))) r (now (out .entry)) (now (out .exit)) ⌝ }
 {
     if 0xffff_ffff < values.len() {
         return Written::Refused(Refusal::TooManyValues);
@@ -48,10 +65,10 @@ pub fn serialize(values: &[u64], codecs: &[u8], out: &mut [u8]) -> Written
     if let Place::At(place) = choice::unknown(codecs) {
         return Written::Refused(Refusal::UnknownCodec { place });
     }
-    let stats = stats::collect(values);
-    match choice::choose(values, stats, codecs) {
+    let stats = stats::collect(kind, values);
+    match choice::choose(kind, values, stats, codecs) {
         Best::Nothing => Written::Refused(Refusal::NoCodecApplies),
-        Best::Least { codec, size: _ } => writer::put(values, stats, codec, out),
+        Best::Least { codec, size: _ } => writer::put(kind, values, stats, codec, out),
     }
 }
 

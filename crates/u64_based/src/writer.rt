@@ -4,6 +4,7 @@ ghost use mathlib.Core.List.{_∷_};
 ghost use lib.ListN.{length};
 ghost use Rattle.format.specs.Bodies.{bitpacked, linear, blockwise, columnBy};
 ghost use Rattle.format.specs.Listing.{codeOf};
+ghost use Rattle.format.specs.Typed.{storedAs};
 ghost use Rattle.stats.specs.Asked.{Describes};
 ghost use Rattle.linear.specs.Writer.{Fits};
 ghost use Rattle.u64_based.specs.Choice.{AptCodec};
@@ -11,60 +12,67 @@ ghost use Rattle.u64_based.specs.Writing.{lent};
 ghost use Rattle.u64_based.specs.Calls.{SerializedAs};
 use format::Codec;
 use format::ColumnStats;
+use format::Kind;
 use format::Refusal;
 use format::Written;
 use linear::writer::Fit;
 
 // A Bitpacked column, where there is room for it.
-fn put_bitpacked(values: &[u64], stats: ColumnStats, out: &mut [u8]) -> Written
-    requires { ⌜ Describes stats (now values) ⌝ }
-    ensures { λ r. ⌜ SerializedAs (lent (0 ∷ bitpacked stats (now (values .entry))) (length (now (out .entry)))) r (now (out .entry)) (now (out .exit)) ⌝ }
+fn put_bitpacked(kind: Kind, values: &[u64], stats: ColumnStats, out: &mut [u8]) -> Written
+    requires { ⌜ Describes stats (storedAs kind (now values)) ⌝ }
+    ensures { λ r. ⌜ SerializedAs (lent (0 ∷ bitpacked stats (storedAs kind (now (values .entry)))) (length (now (out .entry)))) r (now (out .entry)) (now (out .exit)) ⌝ }
 {
     let needed = 1 + bitpacked::writer::estimate(stats);
     if out.len() < needed {
         return Written::Refused(Refusal::OutputShort { needed });
     }
     out[0] = 0;
-    Written::Length(bitpacked::writer::serialize(values, stats, out, 1))
+    Written::Length(bitpacked::writer::serialize(kind, values, stats, out, 1))
 }
 
 // A Linear column, where there is room for it.
-fn put_linear(values: &[u64], stats: ColumnStats, fit: Fit, out: &mut [u8]) -> Written
-    requires { ⌜ Describes stats (now values) ⌝ }
-    requires { ⌜ Fits (now values) fit ⌝ }
-    ensures { λ r. ⌜ SerializedAs (lent (1 ∷ linear stats (now (values .entry))) (length (now (out .entry)))) r (now (out .entry)) (now (out .exit)) ⌝ }
+fn put_linear(kind: Kind, values: &[u64], stats: ColumnStats, fit: Fit, out: &mut [u8]) -> Written
+    requires { ⌜ Describes stats (storedAs kind (now values)) ⌝ }
+    requires { ⌜ Fits (storedAs kind (now values)) fit ⌝ }
+    ensures { λ r. ⌜ SerializedAs (lent (1 ∷ linear stats (storedAs kind (now (values .entry)))) (length (now (out .entry)))) r (now (out .entry)) (now (out .exit)) ⌝ }
 {
     let needed = 1 + linear::writer::estimate(stats, fit);
     if out.len() < needed {
         return Written::Refused(Refusal::OutputShort { needed });
     }
     out[0] = 1;
-    Written::Length(linear::writer::serialize(values, stats, fit, out, 1))
+    Written::Length(linear::writer::serialize(kind, values, stats, fit, out, 1))
 }
 
 // A Blockwise column, where there is room for it.
-fn put_blockwise(values: &[u64], stats: ColumnStats, out: &mut [u8]) -> Written
-    requires { ⌜ Describes stats (now values) ⌝ }
-    ensures { λ r. ⌜ SerializedAs (lent (2 ∷ blockwise stats (now (values .entry))) (length (now (out .entry)))) r (now (out .entry)) (now (out .exit)) ⌝ }
+fn put_blockwise(kind: Kind, values: &[u64], stats: ColumnStats, out: &mut [u8]) -> Written
+    requires { ⌜ Describes stats (storedAs kind (now values)) ⌝ }
+    ensures { λ r. ⌜ SerializedAs (lent (2 ∷ blockwise stats (storedAs kind (now (values .entry)))) (length (now (out .entry)))) r (now (out .entry)) (now (out .exit)) ⌝ }
 {
-    let sizes = blockwise_linear::writer::measure(values, stats.minimum, stats.gcd);
+    let sizes = blockwise_linear::writer::measure(kind, values, stats.minimum, stats.gcd);
     let needed = 1 + blockwise_linear::writer::body_len(stats, sizes);
     if out.len() < needed {
         return Written::Refused(Refusal::OutputShort { needed });
     }
     out[0] = 2;
-    Written::Length(blockwise_linear::writer::serialize(values, stats, sizes, out, 1))
+    Written::Length(blockwise_linear::writer::serialize(kind, values, stats, sizes, out, 1))
 }
 
 // The column of a chosen codec, where there is room for it.
-pub(crate) fn put(values: &[u64], stats: ColumnStats, codec: Codec, out: &mut [u8]) -> Written
-    requires { ⌜ Describes stats (now values) ⌝ }
-    requires { ⌜ AptCodec (now values) codec ⌝ }
-    ensures { λ r. ⌜ SerializedAs (lent (columnBy (codeOf codec) (now (values .entry))) (length (now (out .entry)))) r (now (out .entry)) (now (out .exit)) ⌝ }
+pub(crate) fn put(
+    kind: Kind,
+    values: &[u64],
+    stats: ColumnStats,
+    codec: Codec,
+    out: &mut [u8],
+) -> Written
+    requires { ⌜ Describes stats (storedAs kind (now values)) ⌝ }
+    requires { ⌜ AptCodec (storedAs kind (now values)) codec ⌝ }
+    ensures { λ r. ⌜ SerializedAs (lent (columnBy (codeOf codec) (storedAs kind (now (values .entry)))) (length (now (out .entry)))) r (now (out .entry)) (now (out .exit)) ⌝ }
 {
     match codec {
-        Codec::Bitpacked => put_bitpacked(values, stats, out),
-        Codec::Linear(line, bits) => put_linear(values, stats, Fit { line, bits }, out),
-        Codec::Blockwise => put_blockwise(values, stats, out),
+        Codec::Bitpacked => put_bitpacked(kind, values, stats, out),
+        Codec::Linear(line, bits) => put_linear(kind, values, stats, Fit { line, bits }, out),
+        Codec::Blockwise => put_blockwise(kind, values, stats, out),
     }
 }

@@ -1,24 +1,17 @@
--- `u64_based::column_stats` meets its contract: the test of the number of values is the rule's demand.
+-- `u64_based::column_stats` meets its contract: numbers are stored as they are.
 -- Assumes nothing.
-use Prim.Native.Nat.{_^_}
-use borrow.Author.Tests.{lt-ltb, le-ltb}
-use denote.Ref.{now}
-use lib.ListN.{length}
+use mathlib.Core.Path.{ap, _∙_}
 use Rattle.format.specs.Stats.{stated}
+use Rattle.format.proofs.StoredLists.{stored-numbers}
 use borrow.Author.Needs.{needs}
 use Rattle.u64_based.proofs.column_stats.Statement.{statement}
 use Rattle.u64_based.proofs.column_stats.Tie as tie
 
+column-stats-as-requires : tie.Need-column-stats-as-requires
+column-stats-as-requires c κs = search needs
+
 returns : tie.Need-returns
-unfolding stated
-returns c = rw (le-ltb (length (now (c .before .before .args .values))) (2 ^ 32) (search needs))
-
-collect-requires : tie.Need-collect-requires
-collect-requires c κs = search needs
-
-returns-2 : tie.Need-returns-2
-unfolding stated
-returns-2 c = rw (lt-ltb (length (now (c .before .before .before .args .values))) (2 ^ 32) (search needs), c .collect .ensures)
+returns c = c .column-stats-as .ensures ∙ ap stated (stored-numbers _)
 
 pub column-stats-spec : {M : Type 1} → statement M
-column-stats-spec = tie.close (tie.spec returns collect-requires returns-2)
+column-stats-spec = tie.close (tie.spec column-stats-as-requires returns)

@@ -1,51 +1,54 @@
 -- `bitpacked::writer::pack_normalised` meets its contract. The loop's invariant: the packer has packed the values passed, normalised.
 -- Assumes nothing.
 use Prim.Native.Nat.{_-_, _/_}
-use mathlib.Core.Path.{sym, _∙_}
+use mathlib.Core.Path.{_∙_}
 use mathlib.Core.List.{map}
 use native.Mathlib.Omega.{arith}
 use denote.Ref.{now}
 use Rattle.format.specs.Bodies.{normalised}
-use Rattle.format.proofs.Lists.{map-at}
+use Rattle.format.specs.Typed.{storedAs}
 use Rattle.bitpacker.specs.Packer.{Packing}
 use Rattle.bitpacker.proofs.PackerLaws.{packing-starts, packing-writable, packing-more, packing-closable, packing-ends}
-use Rattle.stats.proofs.Described.{sound-of, value-above, steps-length}
+use Rattle.stats.proofs.Described.{sound-of, stored-above, stored-step, stored-count}
 use borrow.Author.Needs.{needs}
 use Rattle.bitpacked.proofs.writer.pack_normalised.Statement.{statement}
 use Rattle.bitpacked.proofs.writer.pack_normalised.Tie as tie
 
 abbrev Inv-loop : tie.InvT-loop
-Inv-loop values bits out₀ minimum gcd rows packer₀ i₀ out packer i = Packing bits (map (λ v. (v - minimum) / gcd) values) out₀ i packer out
+Inv-loop kind values bits out₀ minimum gcd rows packer₀ i₀ out packer i = Packing bits (map (λ v. (v - minimum) / gcd) (storedAs kind values)) out₀ i packer out
 
 abbrev μ-loop : tie.MeasureT-loop
-μ-loop values bits out₀ minimum gcd rows packer₀ i₀ out packer i = rows - i
+μ-loop kind values bits out₀ minimum gcd rows packer₀ i₀ out packer i = rows - i
 
 new-requires : tie.Need-new-requires Inv-loop μ-loop
 new-requires c κs = search needs
 
 loop-holds : tie.Need-loop-holds Inv-loop μ-loop
 loop-holds c = let a = c .before .before .before .args in
-    packing-starts (a .bits) (map (normalised (a .stats)) (now (a .values))) (c .new .ensures (now (a .out)))
+    packing-starts (a .bits) (map (normalised (a .stats)) (storedAs (a .kind) (now (a .values)))) (c .new .ensures (now (a .out)))
 
-mul-v : tie.Need-mul-v Inv-loop μ-loop
-mul-v c = search needs
+mul-stored-of : tie.Need-mul-stored-of Inv-loop μ-loop
+mul-stored-of c = search needs
 
-shared-slice-read-v : tie.Need-shared-slice-read-v Inv-loop μ-loop
-shared-slice-read-v c = search needs
+shared-slice-read-stored-of : tie.Need-shared-slice-read-stored-of Inv-loop μ-loop
+shared-slice-read-stored-of c = search needs
+
+stored-of-requires : tie.Need-stored-of-requires Inv-loop μ-loop
+stored-of-requires c κs = search needs
 
 sub-write : tie.Need-sub-write Inv-loop μ-loop
-sub-write c = let at-loop = c .before .before .before in
-    value-above (at-loop .before .before .before .before .pre .0) (at-loop .loop .i) (omega arith)
+sub-write c = let at-loop = c .before .before .before .before in
+    let start = at-loop .before .before .before .before in
+    stored-above (start .args .kind) (now (start .args .values)) (start .pre .0) (at-loop .loop .i) (omega arith) (c .before .stored-of .ensures)
 
 div-write : tie.Need-div-write Inv-loop μ-loop
-div-write c = sound-of (c .before .before .before .before .before .before .before .pre .0) .some
+div-write c = sound-of (c .before .before .before .before .before .before .before .before .pre .0) .some
 
 write-requires : tie.Need-write-requires Inv-loop μ-loop
-write-requires c κs = let at-loop = c .before .before .before in
+write-requires c κs = let at-loop = c .before .before .before .before in
     let start = at-loop .before .before .before .before in
-    let described = start .pre .0 in
-    packing-writable (start .pre .1) (steps-length described) (at-loop .loop .inv) (omega arith)
-    (sym (map-at (normalised (start .args .stats)) (now (start .args .values)) (at-loop .loop .i) (omega arith)))
+    packing-writable (start .pre .1) (stored-count (start .args .kind) (now (start .args .values)) (start .pre .0)) (at-loop .loop .inv) (omega arith)
+    (stored-step (start .args .kind) (now (start .args .values)) (start .pre .0) (at-loop .loop .i) (omega arith) (c .before .stored-of .ensures))
 
 add-i : tie.Need-add-i Inv-loop μ-loop
 add-i c = search needs
@@ -54,16 +57,17 @@ loop-less : tie.Need-loop-less Inv-loop μ-loop
 loop-less c = search needs
 
 loop-again : tie.Need-loop-again Inv-loop μ-loop
-loop-again c = let at-loop = c .before .before .before .before .before .before in
+loop-again c = let fetched = c .before .before .before .before in
+    let at-loop = fetched .before .before .before in
     let start = at-loop .before .before .before .before in
-    packing-more (start .pre .1) (steps-length (start .pre .0)) (at-loop .loop .inv) (omega arith)
-    (sym (map-at (normalised (start .args .stats)) (now (start .args .values)) (at-loop .loop .i) (omega arith)))
+    packing-more (start .pre .1) (stored-count (start .args .kind) (now (start .args .values)) (start .pre .0)) (at-loop .loop .inv) (omega arith)
+    (stored-step (start .args .kind) (now (start .args .values)) (start .pre .0) (at-loop .loop .i) (omega arith) (fetched .stored-of .ensures))
     (c .before .before .write .ensures) (c .before .before .write .kept .1 .0)
 
 close-requires : tie.Need-close-requires Inv-loop μ-loop
 close-requires c κs = let at-loop = c .before .before in
     let start = at-loop .before .before .before .before in
-    packing-closable (start .pre .1) (steps-length (start .pre .0)) (at-loop .loop .inv) (omega arith)
+    packing-closable (start .pre .1) (stored-count (start .args .kind) (now (start .args .values)) (start .pre .0)) (at-loop .loop .inv) (omega arith)
 
 same-length : tie.Need-same-length Inv-loop μ-loop
 same-length c = c .before .before .close .kept .1 .0 ∙ c .before .before .before .before .before .loop .inv .kept
@@ -71,7 +75,7 @@ same-length c = c .before .before .close .kept .1 .0 ∙ c .before .before .befo
 returns : tie.Need-returns Inv-loop μ-loop
 returns c = let at-loop = c .before .before .before .before .before in
     let start = at-loop .before .before .before .before in
-    packing-ends (start .pre .1) (steps-length (start .pre .0)) (at-loop .loop .inv) (omega arith) (c .before .before .close .ensures)
+    packing-ends (start .pre .1) (stored-count (start .args .kind) (now (start .args .values)) (start .pre .0)) (at-loop .loop .inv) (omega arith) (c .before .before .close .ensures)
 
 pub pack-normalised-spec : {M : Type 1} → statement M
 pack-normalised-spec =
@@ -81,8 +85,9 @@ pack-normalised-spec =
     μ-loop
     new-requires
     loop-holds
-    mul-v
-    shared-slice-read-v
+    mul-stored-of
+    shared-slice-read-stored-of
+    stored-of-requires
     sub-write
     div-write
     write-requires

@@ -10,10 +10,12 @@ use Rattle.format.specs.Word.{bytesFor}
 use Rattle.format.specs.Packing.{width}
 use Rattle.format.specs.Stats.{countOf}
 use Rattle.format.specs.Bodies.{normalised}
+use Rattle.format.specs.Typed.{storedAs}
+use Rattle.format.proofs.StoredLists.{stored-length}
 use Rattle.format.proofs.Stores.{rest-room, rest-wrote}
 use Rattle.format.proofs.Widths.{width-most}
 use Rattle.bitpacker.proofs.PackerLaws.{packed-count}
-use Rattle.stats.proofs.Described.{sound-of, steps-length}
+use Rattle.stats.proofs.Described.{sound-of, stored-count}
 use Rattle.bitpacked.proofs.Body.{body-length, area-room, area-packable, body-wrote}
 use borrow.Author.Needs.{needs}
 use Rattle.bitpacked.proofs.writer.serialize.Statement.{statement}
@@ -29,7 +31,8 @@ room : (c : tie.After-compute-num-bits)
 room c =
     let headed = c .before .before .before .before in
     let start = headed .before .before .before .before in
-    area-room (start .pre .0) (start .args .at) (now (start .args .out)) (is-width c) (start .pre .1) (headed .head-write .ensures .ends)
+    rw (← stored-length (start .args .kind) (now (start .args .values)))
+    (area-room (start .pre .0) (start .args .at) (now (start .args .out)) (is-width c) (start .pre .1) (headed .head-write .ensures .ends))
 
 head-write-requires : tie.Need-head-write-requires
 head-write-requires c κs = let start = c .before .before .before in
@@ -55,12 +58,13 @@ pack-normalised-requires c κs = let widened = c .before in
     let headed = widened .before .before .before .before in
     let start = headed .before .before .before .before in
     let described = start .pre .0 in
-    (described, area-packable described _ (is-width widened) (rest-room (headed .head-write .last .0) (now (start .args .out)) _ (headed .head-write .kept .0) (room widened)))
+    let few = stored-length (start .args .kind) (now (start .args .values)) in
+    (described, area-packable described _ (is-width widened) (rw few (rest-room (headed .head-write .last .0) (now (start .args .out)) _ (headed .head-write .kept .0) (room widened))))
 
 packed-len-requires : tie.Need-packed-len-requires
 packed-len-requires c κs = let widened = c .before .before .before .before in
     let start = widened .before .before .before .before .before .before .before .before in
-    (start .pre .0 .few, rw (widened .compute-num-bits .ensures) (width-most _))
+    (rw (← stored-length (start .args .kind) (now (start .args .values))) (start .pre .0 .few), rw (widened .compute-num-bits .ensures) (width-most _))
 
 add-result : tie.Need-add-result
 add-result c = omega (arith, room (c .before .before .before .before .before), c .packed-len .ensures)
@@ -74,10 +78,10 @@ returns c = let packed = c .before .before .before in
     let headed = widened .before .before .before .before in
     let start = headed .before .before .before .before in
     let a = start .args in
-    let rows = map (normalised (a .stats)) (now (a .values)) in
+    let rows = map (normalised (a .stats)) (storedAs (a .kind) (now (a .values))) in
     rw (c .packed-len .ensures)
-    (body-wrote (a .stats) (now (a .values)) (is-width widened) (headed .head-write .ensures)
-    (rest-wrote _ _ _ (headed .head-write .last .0) (now (a .out)) _ (packed-count _ rows _ (steps-length (start .pre .0))) (headed .head-write .kept .0) (room widened)
+    (body-wrote (a .stats) (storedAs (a .kind) (now (a .values))) (is-width widened) (headed .head-write .ensures)
+    (rest-wrote _ _ _ (headed .head-write .last .0) (now (a .out)) _ (packed-count _ rows _ (stored-count (a .kind) (now (a .values)) (start .pre .0))) (headed .head-write .kept .0) (room widened)
     (packed .pack-normalised .ensures)))
 
 pub serialize-spec : {M : Type 1} → statement M

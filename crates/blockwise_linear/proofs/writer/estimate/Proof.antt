@@ -3,6 +3,8 @@
 use denote.Ref.{now}
 use lib.ListN.{length-map}
 use Rattle.stats.proofs.Described.{sound-of}
+use Rattle.format.specs.Typed.{storedAs}
+use Rattle.format.proofs.StoredLists.{stored-length}
 use Rattle.blockwise_linear.specs.Writer.{normal, normals}
 use Rattle.blockwise_linear.proofs.Body.{raw-above, takes-few, estimate-is, estimate-none}
 use borrow.Author.Needs.{needs}
@@ -10,11 +12,12 @@ use Rattle.blockwise_linear.proofs.writer.estimate.Statement.{statement
 use Rattle.blockwise_linear.proofs.writer.estimate.Tie as tie
 
 measure-requires : tie.Need-measure-requires
-measure-requires c κs = (raw-above _, c .before .pre .few)
+measure-requires c κs = let a = c .before .args in
+    (raw-above _, rw (← stored-length (a .kind) (now (a .values))) (c .before .pre .few))
 
 body-len-requires : tie.Need-body-len-requires
 body-len-requires c κs = let start = c .before .before in
-    let vs = now (start .args .values) in
+    let vs = storedAs (start .args .kind) (now (start .args .values)) in
     (sound-of (start .pre), takes-few (normals 0 1 vs) _ (length-map vs (normal 0 1)) (start .pre .few) (c .measure .ensures))
 
 saving-of-requires : tie.Need-saving-of-requires
@@ -23,12 +26,12 @@ saving-of-requires c κs = search needs
 returns : tie.Need-returns
 returns c = let measured = c .before .before .before in
     let start = measured .before .before in
-    estimate-none (start .args .stats) (now (start .args .values)) _ _ _ (measured .measure .ensures) (c .before .before .body-len .ensures) (c .before .saving-of .ensures) (c .if1 .taken)
+    estimate-none (start .args .stats) (storedAs (start .args .kind) (now (start .args .values))) _ _ _ (measured .measure .ensures) (c .before .before .body-len .ensures) (c .before .saving-of .ensures) (c .if1 .taken)
 
 returns-2 : tie.Need-returns-2
 returns-2 c = let measured = c .before .before .before in
     let start = measured .before .before in
-    estimate-is (start .args .stats) (now (start .args .values)) _ _ _ (measured .measure .ensures) (c .before .before .body-len .ensures) (c .before .saving-of .ensures)
+    estimate-is (start .args .stats) (storedAs (start .args .kind) (now (start .args .values))) _ _ _ (measured .measure .ensures) (c .before .before .body-len .ensures) (c .before .saving-of .ensures)
 
 pub estimate-spec : {M : Type 1} → statement M
 estimate-spec =

@@ -6,6 +6,8 @@ use mathlib.Core.List.{List, map}
 use native.Mathlib.Omega.{arith}
 use denote.Ref.{now}
 use lib.ListN.{length, take, drop}
+use Rattle.format.specs.Typed.{storedAs}
+use Rattle.format.proofs.StoredLists.{stored-length}
 use Rattle.blockwise_linear.specs.declared.writer.Fit.{Fit}
 use Rattle.blockwise_linear.specs.Writer.{normal, Fitted}
 use Rattle.blockwise_linear.proofs.Blocks.{part-map}
@@ -18,7 +20,8 @@ fitted : (f : ℕ → ℕ) (at n : ℕ) (values loaded rows : List ℕ) (fit : F
 fitted f at n values loaded rows fit e h = rw (← part-map f at n values, ← e) h
 
 load-requires : tie.Need-load-requires
-load-requires c κs = (c .before .before .before .pre .above, omega (arith, c .before .before .before .pre .inside))
+load-requires c κs = let start = c .before .before .before in
+    (start .pre .above, omega (arith, start .pre .inside, stored-length (start .args .kind) (now (start .args .values))))
 
 fit-block-requires : tie.Need-fit-block-requires
 fit-block-requires c κs = search needs
@@ -28,7 +31,7 @@ same-length c = search needs
 
 returns : tie.Need-returns
 returns c = let a = c .before .before .before .before .before .before .before .before .before .before .args in
-    fitted (normal (a .minimum) (a .gcd)) (a .at) (length (now (a .block))) (now (a .values)) _ _ _ (c .before .before .before .before .before .before .load .ensures) (c .before .before .fit-block .ensures)
+    fitted (normal (a .minimum) (a .gcd)) (a .at) (length (now (a .block))) (storedAs (a .kind) (now (a .values))) _ _ _ (c .before .before .before .before .before .before .load .ensures) (c .before .before .fit-block .ensures)
 
 pub fit-part-spec : {M : Type 1} → statement M
 fit-part-spec = tie.close (tie.spec load-requires fit-block-requires same-length returns)

@@ -2,8 +2,11 @@
 -- Assumes nothing.
 use denote.Ref.{now}
 use Prim.Native.Nat.{_-_}
+use mathlib.Core.Path.{_∙_}
 use native.Mathlib.Omega.{arith}
 use lib.ListN.{length-map}
+use Rattle.format.specs.Typed.{storedAs}
+use Rattle.format.proofs.StoredLists.{stored-length}
 use Rattle.blockwise_linear.specs.Writer.{normal, normals}
 use Rattle.blockwise_linear.proofs.Walks.{Measuring, measuring-starts, measuring-next, measuring-ends}
 use borrow.Author.Needs.{needs}
@@ -11,14 +14,15 @@ use Rattle.blockwise_linear.proofs.writer.measure.Statement.{statement}
 use Rattle.blockwise_linear.proofs.writer.measure.Tie as tie
 
 abbrev Inv-loop : tie.InvT-loop
-Inv-loop values minimum gcd rows area₀ footer₀ at₀ area footer at = Measuring (normals minimum gcd values) rows area footer at
+Inv-loop kind values minimum gcd rows area₀ footer₀ at₀ area footer at = Measuring (normals minimum gcd (storedAs kind values)) rows area footer at
 
 abbrev μ-loop : tie.MeasureT-loop
-μ-loop values minimum gcd rows area₀ footer₀ at₀ area footer at = rows - at
+μ-loop kind values minimum gcd rows area₀ footer₀ at₀ area footer at = rows - at
 
 loop-holds : tie.Need-loop-holds Inv-loop μ-loop
 loop-holds c = let a = c .before .args in
-    measuring-starts (normals (a .minimum) (a .gcd) (now (a .values))) _ (length-map (now (a .values)) (normal (a .minimum) (a .gcd)))
+    let xs = storedAs (a .kind) (now (a .values)) in
+    measuring-starts (normals (a .minimum) (a .gcd) xs) _ (length-map xs (normal (a .minimum) (a .gcd)) ∙ stored-length (a .kind) (now (a .values)))
 
 sub-part-size : tie.Need-sub-part-size Inv-loop μ-loop
 sub-part-size c = search needs
@@ -27,9 +31,9 @@ part-size-requires : tie.Need-part-size-requires Inv-loop μ-loop
 part-size-requires c κs = search needs
 
 part-sizes-requires : tie.Need-part-sizes-requires Inv-loop μ-loop
-part-sizes-requires c κs = record {
-  above = c .before .before .before .before .pre .0;
-  inside = omega (arith, c .part-size .ensures);
+part-sizes-requires c κs = let start = c .before .before .before .before in record {
+  above = start .pre .0;
+  inside = omega (arith, c .part-size .ensures, stored-length (start .args .kind) (now (start .args .values)));
   few = omega (arith, c .part-size .ensures);
 }
 

@@ -23,8 +23,8 @@ packed-len-requires c κs = (omega (arith, c .before .before .before .before .pr
 len-requires : tie.Need-len-requires
 len-requires c κs = search needs
 
-add-t12 : tie.Need-add-t12
-add-t12 c = omega (arith, line-few (c .before .before .before .fit-part .result .line))
+add-t13 : tie.Need-add-t13
+add-t13 c = omega (arith, line-few (c .before .before .before .fit-part .result .line))
 
 returns : tie.Need-returns
 returns c = let start = c .before .before .before .before .before .before in
@@ -39,5 +39,5 @@ part-sizes-spec =
     fit-part-requires
     packed-len-requires
     len-requires
-    add-t12
+    add-t13
     returns)

@@ -4,25 +4,31 @@ use Prim.Native.Nat.{_-_}
 use mathlib.Core.Path.{refl, sym, ap, _∙_}
 use denote.Ref.{now}
 use Rattle.format.specs.Line.{trained}
+use Rattle.format.specs.Typed.{storedAs}
+use Rattle.format.proofs.StoredLists.{stored-length, stored-is}
 use Rattle.linear.proofs.Deviations.{Copying, copying-starts, copying-next, copying-ends}
 use borrow.Author.Needs.{needs}
 use Rattle.linear.proofs.writer.first_line.Statement.{statement}
 use Rattle.linear.proofs.writer.first_line.Tie as tie
 
 abbrev Inv-loop : tie.InvT-loop
-Inv-loop values first₀ i₀ first i = Copying values i first
+Inv-loop kind values first₀ i₀ first i = Copying (storedAs kind values) i first
 
 abbrev μ-loop : tie.MeasureT-loop
-μ-loop values first₀ i₀ first i = 512 - i
+μ-loop kind values first₀ i₀ first i = 512 - i
 
 loop-holds : tie.Need-loop-holds Inv-loop μ-loop
-loop-holds c = copying-starts (now (c .before .args .values)) _ refl
+loop-holds c = let a = c .before .args in
+    copying-starts (storedAs (a .kind) (now (a .values))) _ refl
 
-mul-v : tie.Need-mul-v Inv-loop μ-loop
-mul-v c = search needs
+mul-stored-of : tie.Need-mul-stored-of Inv-loop μ-loop
+mul-stored-of c = search needs
 
-shared-slice-read-v : tie.Need-shared-slice-read-v Inv-loop μ-loop
-shared-slice-read-v c = search needs
+shared-slice-read-stored-of : tie.Need-shared-slice-read-stored-of Inv-loop μ-loop
+shared-slice-read-stored-of c = search needs
+
+stored-of-requires : tie.Need-stored-of-requires Inv-loop μ-loop
+stored-of-requires c κs = search needs
 
 mul-first : tie.Need-mul-first Inv-loop μ-loop
 mul-first c = search needs
@@ -37,8 +43,11 @@ loop-less : tie.Need-loop-less Inv-loop μ-loop
 loop-less c = search needs
 
 loop-again : tie.Need-loop-again Inv-loop μ-loop
-loop-again c = let at-loop = c .before .before in
-    copying-next (at-loop .before .before .pre) (at-loop .loop .inv) (search needs)
+loop-again c = let at-loop = c .before .before .before in
+    let start = at-loop .before .before in
+    let a = start .args in
+    rw (stored-is (a .kind) (now (a .values)) (at-loop .loop .i) (search needs) (c .stored-of .ensures))
+    (copying-next (rw (stored-length (a .kind) (now (a .values))) (start .pre)) (at-loop .loop .inv) (search needs))
 
 slice-aggregate-train : tie.Need-slice-aggregate-train Inv-loop μ-loop
 slice-aggregate-train c = sym (c .before .before .loop .inv .size)
@@ -48,7 +57,9 @@ train-requires c κs = search needs
 
 returns : tie.Need-returns Inv-loop μ-loop
 returns c = let at-loop = c .before .before .before in
-    c .train .ensures ∙ ap trained (copying-ends (at-loop .before .before .pre) (at-loop .loop .inv) (search needs))
+    let start = at-loop .before .before in
+    let a = start .args in
+    c .train .ensures ∙ ap trained (copying-ends (rw (stored-length (a .kind) (now (a .values))) (start .pre)) (at-loop .loop .inv) (search needs))
 
 pub first-line-spec : {M : Type 1} → statement M
 first-line-spec =
@@ -57,8 +68,9 @@ first-line-spec =
     Inv-loop
     μ-loop
     loop-holds
-    mul-v
-    shared-slice-read-v
+    mul-stored-of
+    shared-slice-read-stored-of
+    stored-of-requires
     mul-first
     array-write-first
     add-i

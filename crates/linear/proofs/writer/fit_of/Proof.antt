@@ -1,6 +1,7 @@
 -- `linear::writer::fit_of` meets its contract: line and width are defined by the spread around the first line.
 -- Assumes nothing.
 use denote.Ref.{now}
+use Rattle.format.specs.Typed.{storedAs}
 use Rattle.linear.proofs.Deviations.{low-high, fit-is}
 use borrow.Author.Needs.{needs}
 use Rattle.linear.proofs.writer.fit_of.Statement.{statement}
@@ -26,7 +27,8 @@ compute-num-bits-requires c κs = search needs
 
 returns : tie.Need-returns
 returns c = let spread = c .before .before .before .before in
-    fit-is (now (spread .before .before .before .args .values)) (spread .before .first-line .ensures) (spread .spread-of .ensures)
+    let a = spread .before .before .before .args in
+    fit-is (storedAs (a .kind) (now (a .values))) (spread .before .first-line .ensures) (spread .spread-of .ensures)
     (c .before .before .before .add .ensures) (c .before .before .sub .ensures) (c .compute-num-bits .ensures)
 
 pub fit-of-spec : {M : Type 1} → statement M

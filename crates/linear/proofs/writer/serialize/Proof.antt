@@ -8,10 +8,11 @@ use lib.ListN.{length}
 use Rattle.format.specs.Word.{bytesFor}
 use Rattle.format.specs.Line.{residuals}
 use Rattle.format.proofs.Stores.{rest-room, rest-wrote}
-use Rattle.format.proofs.Lines.{residuals-length}
+use Rattle.format.specs.Typed.{storedAs}
+use Rattle.format.proofs.StoredLists.{stored-length}
 use Rattle.bitpacker.proofs.PackerLaws.{packed-count}
 use Rattle.stats.proofs.Described.{sound-of}
-use Rattle.linear.proofs.Body.{fit-most, body-length, area-room, area-packable, body-wrote}
+use Rattle.linear.proofs.Body.{fit-most, body-length, area-room, area-packable, body-wrote, left-count}
 use borrow.Author.Needs.{needs}
 use Rattle.linear.proofs.writer.serialize.Statement.{statement}
 use Rattle.linear.proofs.writer.serialize.Tie as tie
@@ -30,7 +31,8 @@ room c =
     let headed = fielded .before .before .before .before in
     let start = headed .before .before .before .before .before in
     let a = start .args in
-    area-room (start .pre .1 .0) (a .stats) (a .at) (now (a .out)) (start .pre .1 .1) (headed .head-write .ensures .ends) (fielded .fields-write .ensures .ends)
+    rw (← stored-length (a .kind) (now (a .values)))
+    (area-room (start .pre .1 .0) (a .stats) (a .at) (now (a .out)) (start .pre .1 .1) (headed .head-write .ensures .ends) (fielded .fields-write .ensures .ends))
 
 head-write-requires : tie.Need-head-write-requires
 head-write-requires c κs = let start = c .before .before .before .before in
@@ -53,11 +55,12 @@ part-pack-residuals-end c = search needs
 pack-residuals-requires : tie.Need-pack-residuals-requires
 pack-residuals-requires c κs = let fielded = c .before .before .before in
     let start = fielded .before .before .before .before .before .before .before .before .before in
-    area-packable (start .pre .1 .0) _ (rest-room (fielded .fields-write .last .0) (now (start .args .out)) _ (kept (c .before)) (room (c .before)))
+    let few = stored-length (start .args .kind) (now (start .args .values)) in
+    area-packable (start .pre .1 .0) _ (rw few (rest-room (fielded .fields-write .last .0) (now (start .args .out)) _ (kept (c .before)) (room (c .before))))
 
 packed-len-requires : tie.Need-packed-len-requires
 packed-len-requires c κs = let start = c .before .before .before .before .before .before .before .before .before .before .before .before .before .before .before in
-    (start .pre .0 .few, fit-most (start .pre .1 .0))
+    (rw (← stored-length (start .args .kind) (now (start .args .values))) (start .pre .0 .few), fit-most (start .pre .1 .0))
 
 add-result : tie.Need-add-result
 add-result c = omega (arith, room (c .before .before .before .before .before), c .packed-len .ensures)
@@ -74,7 +77,7 @@ returns c = let packed = c .before .before .before in
     let a = start .args in
     rw (c .packed-len .ensures)
     (body-wrote (start .pre .1 .0) (a .stats) (headed .head-write .ensures) (fielded .fields-write .ensures)
-    (rest-wrote _ _ _ (fielded .fields-write .last .0) (now (a .out)) _ (packed-count _ (residuals (a .fit .line) (now (a .values))) _ (residuals-length (a .fit .line) (now (a .values)))) (kept before) (room before)
+    (rest-wrote _ _ _ (fielded .fields-write .last .0) (now (a .out)) _ (packed-count _ (residuals (a .fit .line) (storedAs (a .kind) (now (a .values)))) _ (left-count (a .fit .line) (a .kind) (now (a .values)))) (kept before) (room before)
     (packed .pack-residuals .ensures)))
 
 pub serialize-spec : {M : Type 1} → statement M

@@ -1,6 +1,7 @@
 -- `u64_based::choice::advance` meets its contract: a codec that was met does not beat the best, and another is compared with it.
 -- Assumes nothing.
 use denote.Ref.{now}
+use Rattle.format.specs.Typed.{storedAs}
 use Rattle.u64_based.proofs.Choosing.{walked-same, walked-more}
 use borrow.Author.Needs.{needs}
 use Rattle.u64_based.proofs.choice.advance.Statement.{statement}
@@ -26,7 +27,7 @@ marked-requires c κs = search needs
 returns-2 : tie.Need-returns-2
 returns-2 c = let start = c .before .before .before .before .before .before .before in
     let compared = c .before .smaller-of .ensures in
-    walked-more (start .args .stats) (now (start .args .values)) (start .pre .1 .1) (start .args .code) (start .pre .1 .0) (c .before .before .sized .ensures)
+    walked-more (start .args .stats) (storedAs (start .args .kind) (now (start .args .values))) (start .pre .1 .1) (start .args .code) (start .pre .1 .0) (c .before .before .sized .ensures)
     (compared .0) (compared .1) (c .marked .ensures)
 
 pub advance-spec : {M : Type 1} → statement M

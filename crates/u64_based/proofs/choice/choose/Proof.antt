@@ -3,16 +3,17 @@
 use Prim.Native.Nat.{_-_}
 use denote.Ref.{now}
 use lib.ListN.{length}
+use Rattle.format.specs.Typed.{storedAs}
 use Rattle.u64_based.proofs.Choosing.{Choosing, choosing-starts, choosing-next, choosing-ends, known-each}
 use borrow.Author.Needs.{needs}
 use Rattle.u64_based.proofs.choice.choose.Statement.{statement}
 use Rattle.u64_based.proofs.choice.choose.Tie as tie
 
 abbrev Inv-loop : tie.InvT-loop
-Inv-loop values stats codecs walk₀ i₀ walk i = Choosing stats values codecs walk i
+Inv-loop kind values stats codecs walk₀ i₀ walk i = Choosing stats (storedAs kind values) codecs walk i
 
 abbrev μ-loop : tie.MeasureT-loop
-μ-loop values stats codecs walk₀ i₀ walk i = length codecs - i
+μ-loop kind values stats codecs walk₀ i₀ walk i = length codecs - i
 
 loop-holds : tie.Need-loop-holds Inv-loop μ-loop
 loop-holds c = choosing-starts _ _ _

@@ -2,6 +2,7 @@
 -- Assumes nothing.
 use denote.Ref.{now}
 use Rattle.stats.proofs.Described.{sound-of}
+use Rattle.format.specs.Typed.{storedAs}
 use Rattle.u64_based.proofs.Sizes.{sized-0, sized-2}
 use borrow.Author.Needs.{needs}
 use Rattle.u64_based.proofs.choice.sized.Statement.{statement}
@@ -18,14 +19,14 @@ estimate-requires-2 c κs = search needs
 
 returns : tie.Need-returns
 returns c = let a = c .before .before .before .args in
-    sized-0 (a .stats) (now (a .values)) _ _ (c .before .match .keys1) (c .estimate .ensures)
+    sized-0 (a .stats) (storedAs (a .kind) (now (a .values))) _ _ (c .before .match .keys1) (c .estimate .ensures)
 
 returns-2 : tie.Need-returns-2
 returns-2 c = rw (c .before .match .keys2) (c .sized-linear .ensures)
 
 returns-3 : tie.Need-returns-3
 returns-3 c = let start = c .before .before .before in
-    sized-2 (start .args .stats) (now (start .args .values)) _ _ (c .before .match .rest .0 .1) (c .before .match .rest .1) (start .pre .1) (c .estimate2 .ensures)
+    sized-2 (start .args .stats) (storedAs (start .args .kind) (now (start .args .values))) _ _ (c .before .match .rest .0 .1) (c .before .match .rest .1) (start .pre .1) (c .estimate2 .ensures)
 
 pub sized-spec : {M : Type 1} → statement M
 sized-spec =

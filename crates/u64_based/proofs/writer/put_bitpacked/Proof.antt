@@ -13,6 +13,7 @@ use Rattle.format.proofs.Widths.{width-most}
 use Rattle.bitpacker.proofs.PackerLaws.{packed-few}
 use Rattle.stats.proofs.Heads.{head-few}
 use Rattle.stats.proofs.Described.{sound-of}
+use Rattle.format.specs.Typed.{storedAs}
 use Rattle.u64_based.proofs.Sizes.{needed-0}
 use Rattle.u64_based.proofs.Serializing.{too-short, put-behind}
 use borrow.Author.Needs.{needs}
@@ -20,7 +21,7 @@ use Rattle.u64_based.proofs.writer.put_bitpacked.Statement.{statement}
 use Rattle.u64_based.proofs.writer.put_bitpacked.Tie as tie
 
 -- the length that the column needs
-needed : (c : tie.After-estimate) → 1 + c .estimate .result ≡ suc (length (bitpacked (c .before .before .before .args .stats) (now (c .before .before .before .args .values))))
+needed : (c : tie.After-estimate) → 1 + c .estimate .result ≡ suc (length (bitpacked (c .before .before .before .args .stats) (storedAs (c .before .before .before .args .kind) (now (c .before .before .before .args .values)))))
 needed c = needed-0 (c .before .before .before .pre) (c .estimate .ensures)
 
 estimate-requires : tie.Need-estimate-requires
@@ -32,7 +33,7 @@ add-needed c = let s = c .before .before .before .args .stats in
 
 returns : tie.Need-returns
 returns c = let a = c .before .before .before .before .args in
-    too-short (0 ∷ bitpacked (a .stats) (now (a .values))) _ _ (needed (c .before)) (c .if1 .taken)
+    too-short (0 ∷ bitpacked (a .stats) (storedAs (a .kind) (now (a .values)))) _ _ (needed (c .before)) (c .if1 .taken)
 
 slice-write-out : tie.Need-slice-write-out
 slice-write-out c = search needs
@@ -42,7 +43,7 @@ serialize-requires c κs = let estimated = c .before .before in
     (estimated .before .before .before .pre, simp length-set (omega (arith, needed estimated)))
 
 same-length : tie.Need-same-length
-same-length c = c .before .before .serialize .kept .1 .1 .0 ∙ length-set (now (c .before .before .before .before .before .before .before .before .args .out)) 0 _
+same-length c = c .before .before .serialize .kept .1 .1 .1 .0 ∙ length-set (now (c .before .before .before .before .before .before .before .before .args .out)) 0 _
 
 returns-2 : tie.Need-returns-2
 returns-2 c = let estimated = c .before .before .before .before .before in

@@ -11,6 +11,8 @@ use Rattle.stats.proofs.Heads.{head-few}
 use Rattle.stats.proofs.Described.{sound-of, steps-length}
 use Rattle.blockwise_linear.specs.Writer.{FewBytes}
 use Rattle.blockwise_linear.proofs.Body.{above-of, takes-few}
+use Rattle.format.specs.Typed.{storedAs}
+use Rattle.format.proofs.StoredLists.{stored-length}
 use Rattle.u64_based.proofs.Sizes.{needed-2}
 use Rattle.u64_based.proofs.Serializing.{too-short, put-behind}
 use borrow.Author.Needs.{needs}
@@ -24,11 +26,12 @@ small c =
     takes-few _ _ (steps-length (start .pre)) (start .pre .few) (c .measure .ensures)
 
 -- the length that the column needs
-needed : (c : tie.After-body-len) → 1 + c .body-len .result ≡ suc (length (blockwise (c .before .before .before .before .args .stats) (now (c .before .before .before .before .args .values))))
+needed : (c : tie.After-body-len) → 1 + c .body-len .result ≡ suc (length (blockwise (c .before .before .before .before .args .stats) (storedAs (c .before .before .before .before .args .kind) (now (c .before .before .before .before .args .values)))))
 needed c = needed-2 (c .before .before .before .before .pre) (c .before .measure .ensures) (c .body-len .ensures)
 
 measure-requires : tie.Need-measure-requires
-measure-requires c κs = (above-of (c .before .before .pre), c .before .before .pre .few)
+measure-requires c κs = let start = c .before .before in
+    (above-of (start .pre), rw (← stored-length (start .args .kind) (now (start .args .values))) (start .pre .few))
 
 body-len-requires : tie.Need-body-len-requires
 body-len-requires c κs = (sound-of (c .before .before .before .pre), small c)
@@ -38,7 +41,7 @@ add-needed c = omega (arith, c .body-len .ensures, head-few (c .before .before .
 
 returns : tie.Need-returns
 returns c = let a = c .before .before .before .before .before .args in
-    too-short (2 ∷ blockwise (a .stats) (now (a .values))) _ _ (needed (c .before)) (c .if1 .taken)
+    too-short (2 ∷ blockwise (a .stats) (storedAs (a .kind) (now (a .values)))) _ _ (needed (c .before)) (c .if1 .taken)
 
 slice-write-out : tie.Need-slice-write-out
 slice-write-out c = search needs
@@ -48,7 +51,7 @@ serialize-requires c κs = let sized = c .before .before in
     (sized .before .before .before .before .pre, (sized .before .measure .ensures, simp length-set (omega (arith, needed sized))))
 
 same-length : tie.Need-same-length
-same-length c = c .before .before .serialize .kept .1 .1 .1 .0 ∙ length-set (now (c .before .before .before .before .before .before .before .before .before .args .out)) 0 _
+same-length c = c .before .before .serialize .kept .1 .1 .1 .1 .0 ∙ length-set (now (c .before .before .before .before .before .before .before .before .before .args .out)) 0 _
 
 returns-2 : tie.Need-returns-2
 returns-2 c = let sized = c .before .before .before .before .before in

@@ -12,6 +12,7 @@ use Rattle.stats.proofs.Heads.{head-few}
 use Rattle.stats.proofs.Described.{sound-of}
 use Rattle.line.proofs.LineBytes.{line-few}
 use Rattle.linear.proofs.Body.{fit-most}
+use Rattle.format.specs.Typed.{storedAs}
 use Rattle.u64_based.proofs.Sizes.{needed-1}
 use Rattle.u64_based.proofs.Serializing.{too-short, put-behind}
 use borrow.Author.Needs.{needs}
@@ -19,7 +20,7 @@ use Rattle.u64_based.proofs.writer.put_linear.Statement.{statement}
 use Rattle.u64_based.proofs.writer.put_linear.Tie as tie
 
 -- the length that the column needs
-needed : (c : tie.After-estimate) → 1 + c .estimate .result ≡ suc (length (linear (c .before .before .before .args .stats) (now (c .before .before .before .args .values))))
+needed : (c : tie.After-estimate) → 1 + c .estimate .result ≡ suc (length (linear (c .before .before .before .args .stats) (storedAs (c .before .before .before .args .kind) (now (c .before .before .before .args .values)))))
 needed c = needed-1 (c .before .before .before .pre .0) (c .before .before .before .pre .1) (c .estimate .ensures)
 
 estimate-requires : tie.Need-estimate-requires
@@ -32,7 +33,7 @@ add-needed c = let start = c .before .before .before in
 
 returns : tie.Need-returns
 returns c = let a = c .before .before .before .before .args in
-    too-short (1 ∷ linear (a .stats) (now (a .values))) _ _ (needed (c .before)) (c .if1 .taken)
+    too-short (1 ∷ linear (a .stats) (storedAs (a .kind) (now (a .values)))) _ _ (needed (c .before)) (c .if1 .taken)
 
 slice-write-out : tie.Need-slice-write-out
 slice-write-out c = search needs
@@ -43,7 +44,7 @@ serialize-requires c κs = let estimated = c .before .before in
     (start .pre .0, (start .pre .1, simp length-set (omega (arith, needed estimated))))
 
 same-length : tie.Need-same-length
-same-length c = c .before .before .serialize .kept .1 .1 .1 .0 ∙ length-set (now (c .before .before .before .before .before .before .before .before .args .out)) 0 _
+same-length c = c .before .before .serialize .kept .1 .1 .1 .1 .0 ∙ length-set (now (c .before .before .before .before .before .before .before .before .args .out)) 0 _
 
 returns-2 : tie.Need-returns-2
 returns-2 c = let estimated = c .before .before .before .before .before in

@@ -1,0 +1,5 @@
+-- what the code's steps do
+pub mod Steps
+pub mod Arms
+-- what the contracts come to
+pub mod Determined

@@ -1,0 +1,231 @@
+// Signed numbers, dates, bools and floats as stored numbers: one value of a lent list, a row's answer read back, and the range of stored
+// numbers that a lookup by values goes by.
+ghost use mathlib.Core.Path.{_≡_};
+ghost use Rattle.format.specs.Refusals.{rowMeaning, signedMeaning, flagMeaning, floatMeaning};
+ghost use Rattle.format.specs.Typed.{storedSigned, signedOf, flagOf, storedFloat, floatOf, storedIn, readAs, signedRange, flagRange, floatRange};
+ghost use Rattle.monotonic_mapping.specs.Flips.{isNumber, isFlag, isFloat, clearFlip, setFlip, mostStored, flip};
+use format::FlagRead;
+use format::FloatRead;
+use format::Kind;
+use format::Range;
+use format::RowRead;
+use format::SignedRead;
+
+// The sign bit.
+const SIGN: u64 = 0x8000_0000_0000_0000;
+
+// The stored number of a float, by its bits.
+fn stored_float(bits: u64) -> u64
+    ensures { λ r. ⌜ r ≡ storedFloat bits ⌝ }
+{
+    if bits < SIGN {
+        bits + SIGN
+    } else {
+        u64::MAX - bits
+    }
+}
+
+// ---- one value of a list
+//
+// A pass over a list asks for the stored number of every value. For plain numbers that is one test, of the kind, which answers the same
+// every time. For the other kinds each question about the kind is one comparison, so that the bits to be inverted and the greatest number
+// can be worked out before the loop and no branch by the kind is left in it.
+
+// Whether values are numbers as they stand.
+fn is_number(kind: Kind) -> bool
+    ensures { λ r. ⌜ r ≡ isNumber kind ⌝ }
+{
+    match kind {
+        Kind::U64 => true,
+        Kind::I64 => false,
+        Kind::Date => false,
+        Kind::Bool => false,
+        Kind::F64 => false,
+    }
+}
+
+// Whether they are bools.
+fn is_flag(kind: Kind) -> bool
+    ensures { λ r. ⌜ r ≡ isFlag kind ⌝ }
+{
+    match kind {
+        Kind::U64 => false,
+        Kind::I64 => false,
+        Kind::Date => false,
+        Kind::Bool => true,
+        Kind::F64 => false,
+    }
+}
+
+// Whether they are floats.
+fn is_float(kind: Kind) -> bool
+    ensures { λ r. ⌜ r ≡ isFloat kind ⌝ }
+{
+    match kind {
+        Kind::U64 => false,
+        Kind::I64 => false,
+        Kind::Date => false,
+        Kind::Bool => false,
+        Kind::F64 => true,
+    }
+}
+
+// What is inverted of a word without the sign bit.
+fn clear_flip(kind: Kind) -> u64
+    ensures { λ r. ⌜ r ≡ clearFlip kind ⌝ }
+{
+    if is_flag(kind) {
+        return 0;
+    }
+    SIGN
+}
+
+// What is inverted of a word with it.
+fn set_flip(kind: Kind) -> u64
+    ensures { λ r. ⌜ r ≡ setFlip kind ⌝ }
+{
+    if is_float(kind) {
+        return u64::MAX;
+    }
+    clear_flip(kind)
+}
+
+// The greatest number that is stored.
+fn most_stored(kind: Kind) -> u64
+    ensures { λ r. ⌜ r ≡ mostStored kind ⌝ }
+{
+    if is_flag(kind) {
+        return 1;
+    }
+    u64::MAX
+}
+
+// A word with its bits inverted, by the sign bit.
+fn flip(x: u64, clear: u64, set: u64) -> u64
+    ensures { λ r. ⌜ r ≡ flip x clear set ⌝ }
+{
+    if x < SIGN { x ^ clear } else { x ^ set }
+}
+
+// The stored number of a value of a kind, lent as a word.
+pub fn stored_of(kind: Kind, x: u64) -> u64
+    ensures { λ r. ⌜ r ≡ storedIn kind x ⌝ }
+{
+    if is_number(kind) {
+        return x;
+    }
+    let most = most_stored(kind);
+    let flipped = flip(x, clear_flip(kind), set_flip(kind));
+    word::lesser(flipped, most)
+}
+
+// ---- reading
+
+// A stored number as a signed one, in two steps that stay in the range of signed numbers.
+fn signed_of(stored: u64) -> i64
+    ensures { λ r. ⌜ r ≡ signedOf stored ⌝ }
+{
+    if stored >= SIGN {
+        (stored - SIGN) as i64
+    } else {
+        (stored as i64) - 9223372036854775807 - 1
+    }
+}
+
+// The bits of the float that is stored as a number.
+fn float_of(stored: u64) -> u64
+    ensures { λ r. ⌜ r ≡ floatOf stored ⌝ }
+{
+    if stored < SIGN {
+        u64::MAX - stored
+    } else {
+        stored - SIGN
+    }
+}
+
+// A row's answer as a signed number, or as a date's nanoseconds. Refusals stay as they are.
+pub fn signed(read: RowRead) -> SignedRead
+    ensures { λ r. ⌜ signedMeaning r ≡ readAs signedOf (rowMeaning read) ⌝ }
+{
+    match read {
+        RowRead::Value(v) => SignedRead::Value(signed_of(v)),
+        RowRead::Refused(why) => SignedRead::Refused(why),
+    }
+}
+
+// As a bool.
+pub fn flag(read: RowRead) -> FlagRead
+    ensures { λ r. ⌜ flagMeaning r ≡ readAs flagOf (rowMeaning read) ⌝ }
+{
+    match read {
+        RowRead::Value(v) => FlagRead::Value(0 < v),
+        RowRead::Refused(why) => FlagRead::Refused(why),
+    }
+}
+
+// As a float's bits.
+pub fn float_bits(read: RowRead) -> FloatRead
+    ensures { λ r. ⌜ floatMeaning r ≡ readAs floatOf (rowMeaning read) ⌝ }
+{
+    match read {
+        RowRead::Value(v) => FloatRead::Value(float_of(v)),
+        RowRead::Refused(why) => FloatRead::Refused(why),
+    }
+}
+
+// ---- looking up
+
+// The stored number of a signed number. The arm for negative numbers goes up in two steps: 2^63 itself is no signed number.
+fn stored_signed(v: i64) -> u64
+    ensures { λ r. ⌜ r ≡ storedSigned v ⌝ }
+{
+    if v >= 0 {
+        (v as u64) + SIGN
+    } else {
+        (v + 9223372036854775807 + 1) as u64
+    }
+}
+
+// The range of the signed numbers, or dates, from low to high.
+pub fn signed_range(low: i64, high: i64) -> Range
+    ensures { λ r. ⌜ r ≡ signedRange low high ⌝ }
+{
+    Range {
+        low: stored_signed(low),
+        high: stored_signed(high),
+    }
+}
+
+// Of the floats from low to high, by their bits, in the order of the stored numbers.
+pub fn float_range(low: u64, high: u64) -> Range
+    ensures { λ r. ⌜ r ≡ floatRange low high ⌝ }
+{
+    Range {
+        low: stored_float(low),
+        high: stored_float(high),
+    }
+}
+
+// The first stored number that reads as a bool.
+fn first_flag(b: bool) -> u64
+    ensures { λ r. ⌜ r ≡ flagRange b b .low ⌝ }
+{
+    if b { 1 } else { 0 }
+}
+
+// And the last.
+fn last_flag(b: bool) -> u64
+    ensures { λ r. ⌜ r ≡ flagRange b b .high ⌝ }
+{
+    if b { u64::MAX } else { 0 }
+}
+
+// Of the bools from low to high: every stored number but 0 reads as true. From true to false is 1 to 0, which holds nothing.
+pub fn flag_range(low: bool, high: bool) -> Range
+    ensures { λ r. ⌜ r ≡ flagRange low high ⌝ }
+{
+    Range {
+        low: first_flag(low),
+        high: last_flag(high),
+    }
+}
