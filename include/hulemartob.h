@@ -84,6 +84,11 @@ size_t hulemartob_lookup(const uint64_t column[10], const uint64_t *table, size_
                          uint64_t low, uint64_t high, uint32_t first, uint32_t end, uint32_t *found, size_t found_len,
                          uint64_t refusal[2]);
 
+/* Decodes the rows from `first` on, as many as `out` has entries, into `out`. Returns how many they are, 0 on refusal, which leaves `out` as it
+ * was. Refused 12 before all else if the run leaves the rows; then the first row of it that hulemartob_row refuses decides (13, 14). */
+size_t hulemartob_run(const uint64_t column[10], const uint64_t *table, size_t table_len, const uint8_t *bytes, size_t bytes_len,
+                      uint32_t first, uint64_t *out, size_t out_len, uint64_t refusal[2]);
+
 #ifdef __cplusplus
 }
 #endif

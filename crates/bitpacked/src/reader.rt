@@ -1,8 +1,13 @@
 // Reading: what is left to open once the head is read, and a row of an opened column.
 ghost use mathlib.Core.Path.{_≡_};
+ghost use Prim.Native.Nat.{ℕ, _+_, _*_, _^_, _≤_, _<_};
+ghost use lib.ListN.{length};
 ghost use Rattle.format.specs.Refusals.{openedMeaning, rowMeaning};
 ghost use Rattle.format.specs.Opening.{openBitpacked, columnIn};
-ghost use Rattle.format.specs.Reading.{packedOf, valueIn};
+ghost use Rattle.format.specs.Packing.{legal, unpack};
+ghost use mathlib.Core.Bool.{true};
+ghost use Rattle.format.specs.Reading.{packedOf, valueIn, valueAt, scaled};
+ghost use Rattle.format.specs.Runs.{readRun, filledTo};
 ghost use Rattle.format.specs.declared.Block.{Block};
 ghost use Rattle.bitpacked.specs.Reader.{Readable};
 use format::Codec;
@@ -42,4 +47,38 @@ pub fn get_val(column: Column, bytes: &[u8], row: ColumnRow) -> RowRead
     let width = bitpacker::compute_num_bits(column.count);
     let multiple = bitpacker::get(&bytes[start..], width, row.0);
     stats::scaled(column, row, multiple)
+}
+
+// The rows from `first` on whose numbers stand at a width in an area, each scaled, up to the first above the count. Plain numbers, so
+// that nothing is left in the loop but the row's own work.
+fn scale_rows(area: &[u8], width: u8, column: Column, first: u32, out: &mut [u64]) -> usize
+    requires { ⌜ legal width ≡ true ⌝ }
+    requires { ⌜ column .minimum + column .count * column .gcd < 2 ^ 64 ⌝ }
+    requires { ⌜ first + length (now out) ≤ 2 ^ 32 ⌝ }
+    ensures { λ n. ⌜ filledTo n first (now (out .exit)) ≡ readRun (λ (r : ℕ). scaled column r (unpack width (now (area .entry)) r)) first (length (now (out .entry))) ⌝ }
+{
+    let minimum = column.minimum;
+    let gcd = column.gcd;
+    let count = column.count;
+    let mut i = 0;
+    while i < out.len() {
+        let multiple = bitpacker::get(area, width, first + i as u32);
+        if count < multiple {
+            return i;
+        }
+        out[i] = minimum + gcd * multiple;
+        i += 1;
+    }
+    i
+}
+
+// Internal: asks for the same, and for rows below 2^32. The values of the rows from `first` on, as many as the list has room for, up to the first that is out of bounds: returns how many.
+pub fn get_range(column: Column, bytes: &[u8], first: ColumnRow, out: &mut [u64]) -> usize
+    requires { ⌜ Readable column (now bytes) ⌝ }
+    requires { ⌜ first .0 + length (now out) ≤ 2 ^ 32 ⌝ }
+    ensures { λ n. ⌜ ((block : Block) → filledTo n (first .0) (now (out .exit)) ≡ readRun (valueAt column block (now (bytes .entry))) (first .0) (length (now (out .entry)))) ⌝ }
+{
+    let start = column.start;
+    let width = bitpacker::compute_num_bits(column.count);
+    scale_rows(&bytes[start..], width, column, first.0, out)
 }

@@ -9,3 +9,4 @@ pub mod Blocks
 pub mod Parts
 pub mod Walks
 pub mod Body
+pub mod Rows

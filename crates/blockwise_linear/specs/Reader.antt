@@ -5,12 +5,13 @@ use mathlib.Core.Path.{_≡_}
 use mathlib.Core.List.{List}
 use mathlib.Core.Bool.{true}
 use mathlib.Core.Logic.{_⊎_}
+use lib.Dec.{eqb}
 use lib.ListN.{length, take, drop}
 use Rattle.format.specs.declared.Fields.{Fields}
 use Rattle.format.specs.declared.Block.{Block}
 use Rattle.format.specs.declared.Codec.the-variants.{Blockwise}
 use Rattle.format.specs.declared.Column.{Column}
-use Rattle.format.specs.Outcome.{Outcome, Outcome.value, _>>=_}
+use Rattle.format.specs.Outcome.{Outcome, Outcome.value, _>>=_, pick}
 use Rattle.format.specs.Refusals.{numbered}
 use Rattle.format.specs.Word.{bytesFor}
 use Rattle.format.specs.Packing.{bytesNum, legal}
@@ -89,3 +90,7 @@ pub record Readable (col : Column) (b : Block) (s : List ℕ) : Type 0 where
   pub bounds : col .minimum + col .count * col .gcd < 2 ^ 64
   pub lawful : legal (b .bits) ≡ true
   pub start : (b .bits ≡ 0) ⊎ (col .start + b .start ≤ length s)
+
+-- the byte where a block's numbers are read from; those of no bits may be looked for anywhere
+abbrev pub numbersStart : Column → Block → ℕ
+numbersStart col b = pick (eqb (b .bits) 0) 0 (col .start + b .start)

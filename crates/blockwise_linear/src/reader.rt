@@ -4,16 +4,20 @@
 // second puts the blocks into the table, once they are known to be good. Only `fill` writes a table and only `block_at` reads
 // one; everything else takes a block by value.
 ghost use mathlib.Core.Path.{_≡_};
-ghost use mathlib.Core.Bool.{_&&_};
-ghost use Prim.Native.Nat.{_+_, _-_, min, _/_, _%_};
+ghost use mathlib.Core.Bool.{true, _&&_};
+ghost use mathlib.Core.Logic.{_⊎_};
+ghost use Prim.Native.Nat.{ℕ, _+_, _-_, _*_, min, _/_, _%_, _^_, _≤_, _<_};
 ghost use lib.Dec.{leb};
 ghost use lib.ListN.{length, drop, getD};
 ghost use Rattle.format.specs.Outcome.{Outcome.value, stored};
-ghost use Rattle.format.specs.Packing.{bytesNum, unpack};
+ghost use Rattle.format.specs.Word.{modAdd};
+ghost use Rattle.format.specs.Packing.{bytesNum, legal, unpack};
+ghost use Rattle.format.specs.Line.{lineAt};
 ghost use Rattle.format.specs.Refusals.{openedMeaning, rowMeaning};
 ghost use Rattle.format.specs.Opening.{openBlockwise, columnIn};
-ghost use Rattle.format.specs.Reading.{blockAt, packedOf, valueIn};
-ghost use Rattle.blockwise_linear.specs.Reader.{stepMeaning, areaMeaning, stepIn, blocksFrom, areaIn, numbersIn, firstCursor, Small, Good, Fillable, Readable};
+ghost use Rattle.format.specs.Reading.{blockAt, packedOf, scaled, valueIn, valueAt};
+ghost use Rattle.format.specs.Runs.{readRun, filledTo};
+ghost use Rattle.blockwise_linear.specs.Reader.{stepMeaning, areaMeaning, stepIn, blocksFrom, areaIn, numbersIn, firstCursor, Small, Good, Fillable, Readable, numbersStart};
 use format::Block;
 use format::BlockRow;
 use format::Codec;
@@ -286,4 +290,69 @@ pub fn get_val(column: Column, block: Block, bytes: &[u8], row: ColumnRow) -> Ro
     let number = residual(column, block, bytes, within);
     let multiple = word::add(line::eval(block.line, within.0 as u64), number);
     stats::scaled(column, row, multiple)
+}
+
+// The byte where a block's numbers are read from; those of no bits may be looked for anywhere.
+fn numbers_start(column: Column, block: Block) -> usize
+    requires { ⌜ (block .bits ≡ 0) ⊎ (column .start + block .start < 2 ^ 64) ⌝ }
+    ensures { λ r. ⌜ r ≡ numbersStart column block ⌝ }
+{
+    if block.bits == 0 {
+        return 0;
+    }
+    column.start + block.start as usize
+}
+
+// The rows from `first` on, by the line of their block and the numbers that stand at a width in an area, each scaled, up to the first above the count.
+fn line_rows(
+    area: &[u8],
+    line: Line,
+    bits: u8,
+    column: Column,
+    first: u32,
+    out: &mut [u64],
+) -> usize
+    requires { ⌜ legal bits ≡ true ⌝ }
+    requires { ⌜ column .minimum + column .count * column .gcd < 2 ^ 64 ⌝ }
+    requires { ⌜ first + length (now out) ≤ 2 ^ 32 ⌝ }
+    ensures { λ n. ⌜ filledTo n first (now (out .exit)) ≡ readRun (λ (r : ℕ). scaled column r (modAdd (lineAt line (r % 512)) (unpack bits (now (area .entry)) (r % 512)))) first (length (now (out .entry))) ⌝ }
+{
+    let minimum = column.minimum;
+    let gcd = column.gcd;
+    let count = column.count;
+    let mut i = 0;
+    while i < out.len() {
+        let within = split(ColumnRow(first + i as u32)).row;
+        let number = bitpacker::get(area, bits, within.0);
+        let multiple = word::add(line::eval(line, within.0 as u64), number);
+        if count < multiple {
+            return i;
+        }
+        out[i] = minimum + gcd * multiple;
+        i += 1;
+    }
+    i
+}
+
+// Internal: asks for the same, and for rows below 2^32. The values of the rows of a block from `first` on, as many as the list has room for, up to the first that is out of bounds: returns how many.
+pub fn get_range(
+    column: Column,
+    block: Block,
+    bytes: &[u8],
+    first: ColumnRow,
+    out: &mut [u64],
+) -> usize
+    requires { ⌜ Readable column block (now bytes) ⌝ }
+    requires { ⌜ first .0 + length (now out) ≤ 2 ^ 32 ⌝ }
+    ensures { λ n. ⌜ filledTo n (first .0) (now (out .exit)) ≡ readRun (valueAt column block (now (bytes .entry))) (first .0) (length (now (out .entry))) ⌝ }
+{
+    let start = numbers_start(column, block);
+    line_rows(
+        &bytes[start..],
+        block.line,
+        block.bits as u8,
+        column,
+        first.0,
+        out,
+    )
 }

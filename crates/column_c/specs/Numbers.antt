@@ -14,6 +14,7 @@ use Rattle.format.specs.Lookup.{lookedUp, within}
 use Rattle.format.specs.Outcome.{Outcome, Outcome.value, Outcome.refusal, _>>=_, _>>_, demand, howMany, stored}
 use Rattle.format.specs.Opening.{Loaded, columnIn, tableIn}
 use Rattle.format.specs.Reading.{rowAt}
+use Rattle.format.specs.Runs.{decoded}
 
 -- ---- refusals
 
@@ -79,6 +80,10 @@ rowFrom ns t s r = columnFrom ns >>= (λ (col : Column). rowAt col t s r)
 abbrev pub foundFrom : (ns t s : List ℕ) (low high first end room : ℕ) → Outcome (List ℕ)
 foundFrom ns t s low high first end room =
     columnFrom ns >>= (λ (col : Column). lookedUp (rowAt col t s) (col .rows) (within low high) first end room)
+
+-- decoding a run of its rows
+abbrev pub runFrom : (ns t s : List ℕ) (first n : ℕ) → Outcome (List ℕ)
+runFrom ns t s first n = columnFrom ns >>= (λ (col : Column). decoded (rowAt col t s) (col .rows) first n)
 
 -- ---- what a call leaves
 

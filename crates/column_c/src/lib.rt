@@ -9,7 +9,7 @@ ghost use Rattle.format.specs.Opening.{opened};
 ghost use Rattle.format.specs.Refusals.{paper, openedMeaning};
 ghost use Rattle.format.specs.Stats.{stated};
 ghost use Rattle.format.specs.Writing.{written};
-ghost use Rattle.column_c.specs.Numbers.{ownNumbers, columnNumbers, columnWith, columnFrom, rowFrom, foundFrom, Answers, Lists, Opens, States};
+ghost use Rattle.column_c.specs.Numbers.{ownNumbers, columnNumbers, columnWith, columnFrom, rowFrom, foundFrom, runFrom, Answers, Lists, Opens, States};
 use format::Codec;
 use format::Column;
 use format::ColumnRow;
@@ -18,6 +18,7 @@ use format::Line;
 use format::Opened;
 use format::Refusal;
 use format::RowRead;
+use format::RunRead;
 use format::Stated;
 use format::Written;
 
@@ -248,6 +249,37 @@ pub extern "C" fn hulemartob_lookup(
             n
         }
         Found::Refused(q) => {
+            *refusal = told(q);
+            0
+        }
+    }
+}
+
+// How many values were decoded, 0 on refusal: those of the rows from `first` on, as many as `out` has entries, which they fill.
+#[no_mangle]
+pub extern "C" fn hulemartob_run(
+    column: &[u64; 10],
+    table: &[u64],
+    bytes: &[u8],
+    first: u32,
+    out: &mut [u64],
+    refusal: &mut [u64; 2],
+) -> usize
+    ensures { λ r. ⌜ Lists (runFrom (now (column .entry)) (now (table .entry)) (now (bytes .entry)) first (length (now (out .entry)))) r (now (refusal .exit)) (now (out .entry)) (now (out .exit)) ⌝ }
+{
+    let opened = match column_from(column) {
+        Opened::Column(opened) => opened,
+        Opened::Refused(q) => {
+            *refusal = told(q);
+            return 0;
+        }
+    };
+    match u64_based::run(opened, table, bytes, first, out) {
+        RunRead::Values(n) => {
+            *refusal = ACCEPTED;
+            n
+        }
+        RunRead::Refused(q) => {
             *refusal = told(q);
             0
         }

@@ -25,6 +25,7 @@ pub mod Openings
 pub mod Laid
 pub mod Elsewhere
 pub mod Rows
+pub mod Runs
 pub mod Lookups
 -- columns of other kinds
 pub mod Mappings

@@ -26,7 +26,7 @@ use Rattle.format.specs.Word.{modAdd}
 use Rattle.format.specs.Packing.{legal, bitAt}
 use Rattle.format.specs.Line.{lineAt}
 use Rattle.format.specs.Opening.{Loaded, opened}
-use Rattle.format.specs.Reading.{placeIn, placeOf, blockAt, hasBlock, fits, packedOf, valueIn, rowIn, rowAt}
+use Rattle.format.specs.Reading.{placeIn, placeOf, blockAt, hasBlock, columnFits, rowFits, fits, packedOf, valueIn, rowIn, rowAt}
 use Rattle.format.specs.Demands.{filledBy, answered, Owns, SameBits, Differ}
 use Rattle.format.proofs.Outcomes.{told-apart}
 use Rattle.format.proofs.Packing.{unpack-below, locality, row-bits, bitAt-drop}
@@ -53,13 +53,13 @@ filled-block table xs b fit h =
 -- tables of however many blocks that have a row's block read it alike
 counted-alike : (col : Column) (b : Block) (s : List ℕ) (r blocks more : ℕ) → hasBlock (col .codec) blocks r ≡ true → hasBlock (col .codec) more r ≡ true
     → rowIn col blocks b s r ≡ rowIn col more b s r
-unfolding rowIn fits
+unfolding rowIn fits rowFits
 counted-alike col b s r blocks more here there = rw (here, there)
 
 -- one codec's reading through a lent table that was filled
 filled-reading : (col : Column) (codec : Codec) → col .codec ≡ codec → (table xs s : List ℕ) (r : ℕ) → length xs ≤ length table → hasBlock codec (length xs / 4) r ≡ true
     → rowAt col (sets table 0 xs) s r ≡ rowAt col xs s r
-unfolding rowIn fits packedOf placeIn valueIn
+unfolding rowIn fits rowFits packedOf placeIn valueIn
 filled-reading col Bitpacked e table xs s r fit there = rw e
 filled-reading col (Linear l w) e table xs s r fit there = rw e
 filled-reading col Blockwise e table xs s r fit there =
@@ -82,7 +82,7 @@ or-true false = refl
 module _ {long room : ℕ} {o : Loaded} (laid : Laid long room o) (s : List ℕ) (fit : long ≤ length s) (r : ℕ) (h : r < o .column .rows) where
   -- column, table and bytes fit together
   pub row-fits : fits (o .column) (length (o .table) / 4) (blockAt (o .table) (r / 512)) s r ≡ true
-  unfolding fits
+  unfolding fits columnFits rowFits
   row-fits =
       let p = placeOf (o .column) (blockAt (o .table) (r / 512)) r in
       rw (

@@ -42,16 +42,24 @@ placeIn Blockwise count b r = record { start = b .start; row = r % 512; bits = b
 abbrev pub placeOf : Column → Block → (r : ℕ) → Place
 placeOf col b r = placeIn (col .codec) (col .count) b r
 
--- whether a column, a table of so many blocks with the row's block, and bytes fit together at a row: the gcd, the bounds, the block, its width, the area, and, unless it has none, the row's bits
-unfoldable pub fits : Column → (blocks : ℕ) → Block → (s : List ℕ) (r : ℕ) → Bool
-fits col blocks b s r =
-    let p = placeOf col b r in
+-- whether a column and bytes fit together, whatever the row: the gcd, the bounds, the area
+unfoldable pub columnFits : Column → (s : List ℕ) → Bool
+columnFits col s =
     ltb 0 (col .gcd)
     && ltb (col .minimum + col .count * col .gcd) (2 ^ 64)
-    && hasBlock (col .codec) blocks r
-    && legal (p .bits)
     && leb (col .start + col .size) (length s)
+
+-- whether a column and a table of so many blocks, with the row's block, fit together at a row: the block, its width, and, unless it has none, the row's bits
+unfoldable pub rowFits : Column → (blocks : ℕ) → Block → (r : ℕ) → Bool
+rowFits col blocks b r =
+    let p = placeOf col b r in
+    hasBlock (col .codec) blocks r
+    && legal (p .bits)
     && (eqb (p .bits) 0 || leb (8 * p .start + (p .row + 1) * p .bits) (8 * col .size))
+
+-- whether column, table and bytes fit together at a row
+unfoldable pub fits : Column → (blocks : ℕ) → Block → (s : List ℕ) (r : ℕ) → Bool
+fits col blocks b s r = columnFits col s && rowFits col blocks b r
 
 -- a row's packed number
 unfoldable pub packedOf : Column → Block → (s : List ℕ) (r : ℕ) → ℕ
@@ -73,6 +81,10 @@ valueIn (Linear l w) col b r n =
     demand (leb (col .minimum) v && leb v (col .minimum + col .gcd * col .count)) 14 (r ∷ []) >> value v
 valueIn Blockwise col b r n = scaled col r (modAdd (lineAt (b .line) (r % 512)) n)
 
+-- the value of a row, with its block, where all fits together
+abbrev pub valueAt : Column → Block → (s : List ℕ) (r : ℕ) → Outcome ℕ
+valueAt col b s r = valueIn (col .codec) col b r (packedOf col b s r)
+
 -- ---- reading
 
 -- row r of a column, with its block out of a table of so many
@@ -80,7 +92,7 @@ unfoldable pub rowIn : Column → (blocks : ℕ) → Block → (s : List ℕ) (r
 rowIn col blocks b s r = do
   demand (ltb r (col .rows)) 12 []
   demand (fits col blocks b s r) 13 []
-  valueIn (col .codec) col b r (packedOf col b s r)
+  valueAt col b s r
 
 -- reading row r of a column, with its table and its bytes
 abbrev pub rowAt : Column → (t s : List ℕ) (r : ℕ) → Outcome ℕ

@@ -188,3 +188,9 @@ pub enum Found {
     Rows(usize),
     Refused(Refusal),
 }
+
+// Decoding a run of rows: how many values now stand in the lent list, which they fill.
+pub enum RunRead {
+    Values(usize),
+    Refused(Refusal),
+}

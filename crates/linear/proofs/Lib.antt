@@ -1,2 +1,3 @@
 pub mod Deviations
 pub mod Body
+pub mod Rows

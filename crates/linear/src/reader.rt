@@ -1,10 +1,17 @@
 // Reading: what is left to open once the head is read, and a row of an opened column.
 ghost use mathlib.Core.Path.{_≡_};
+ghost use mathlib.Core.Bool.{true};
+ghost use Prim.Native.Nat.{ℕ, _+_, _^_, _≤_};
+ghost use lib.ListN.{length};
 ghost use Rattle.format.specs.Refusals.{openedMeaning, rowMeaning};
 ghost use Rattle.format.specs.Opening.{openLinear, columnIn};
-ghost use Rattle.format.specs.Reading.{packedOf, valueIn};
+ghost use Rattle.format.specs.Word.{modAdd};
+ghost use Rattle.format.specs.Packing.{legal, unpack};
+ghost use Rattle.format.specs.Line.{lineAt};
+ghost use Rattle.format.specs.Reading.{packedOf, valueIn, valueAt};
+ghost use Rattle.format.specs.Runs.{readRun, filledTo};
 ghost use Rattle.format.specs.declared.Block.{Block};
-ghost use Rattle.linear.specs.Reader.{Readable};
+ghost use Rattle.linear.specs.Reader.{Readable, bounded};
 use format::Codec;
 use format::Column;
 use format::ColumnRow;
@@ -54,4 +61,61 @@ pub fn get_val(column: Column, line: Line, bits: u8, bytes: &[u8], row: ColumnRo
         return RowRead::Refused(Refusal::OutOfBounds { row: row.0 });
     }
     RowRead::Value(value)
+}
+
+// The values of the rows from `first` on, by a line and the numbers that stand at a width in an area, up to the first that lies outside the bounds.
+fn line_rows(
+    area: &[u8],
+    line: Line,
+    bits: u8,
+    minimum: u64,
+    maximum: u64,
+    first: u32,
+    out: &mut [u64],
+) -> usize
+    requires { ⌜ legal bits ≡ true ⌝ }
+    requires { ⌜ first + length (now out) ≤ 2 ^ 32 ⌝ }
+    ensures { λ n. ⌜ filledTo n first (now (out .exit)) ≡ readRun (λ (r : ℕ). bounded minimum maximum r (modAdd (lineAt line r) (unpack bits (now (area .entry)) r))) first (length (now (out .entry))) ⌝ }
+{
+    let mut i = 0;
+    while i < out.len() {
+        let row = first + i as u32;
+        let number = bitpacker::get(area, bits, row);
+        let value = word::add(line::eval(line, row as u64), number);
+        if value < minimum {
+            return i;
+        }
+        if maximum < value {
+            return i;
+        }
+        out[i] = value;
+        i += 1;
+    }
+    i
+}
+
+// Internal: asks for the same, and for rows below 2^32. The values of the rows from `first` on, as many as the list has room for, up to the first that is out of bounds: returns how many.
+pub fn get_range(
+    column: Column,
+    line: Line,
+    bits: u8,
+    bytes: &[u8],
+    first: ColumnRow,
+    out: &mut [u64],
+) -> usize
+    requires { ⌜ Readable column line bits (now bytes) ⌝ }
+    requires { ⌜ first .0 + length (now out) ≤ 2 ^ 32 ⌝ }
+    ensures { λ n. ⌜ ((block : Block) → filledTo n (first .0) (now (out .exit)) ≡ readRun (valueAt column block (now (bytes .entry))) (first .0) (length (now (out .entry)))) ⌝ }
+{
+    let start = column.start;
+    let maximum = column.minimum + column.gcd * column.count;
+    line_rows(
+        &bytes[start..],
+        line,
+        bits,
+        column.minimum,
+        maximum,
+        first.0,
+        out,
+    )
 }

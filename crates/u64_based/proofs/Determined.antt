@@ -1,5 +1,5 @@
 -- The contracts of the entry points determine what they answer and what every lent entry holds afterwards: two results that they allow coincide.
---     stats-determined, serialize-determined, stats-as-determined, serialize-as-determined, open-plain-determined, open-determined, row-determined, lookup-determined
+--     stats-determined, serialize-determined, stats-as-determined, serialize-as-determined, open-plain-determined, open-determined, row-determined, lookup-determined, run-determined
 -- Assumes nothing.
 use Prim.Native.Nat.{ℕ, _/_}
 use mathlib.Core.Path.{_≡_, sym, _∙_}
@@ -10,17 +10,19 @@ use Rattle.format.specs.declared.Found.{Found}
 use Rattle.format.specs.declared.Kind.{Kind}
 use Rattle.format.specs.declared.Opened.{Opened}
 use Rattle.format.specs.declared.RowRead.{RowRead}
+use Rattle.format.specs.declared.RunRead.{RunRead}
 use Rattle.format.specs.declared.Stated.{Stated}
 use Rattle.format.specs.declared.Written.{Written}
 use Rattle.format.specs.Lookup.{lookedUp, within}
 use Rattle.format.specs.Opening.{opened, columnIn}
 use Rattle.format.specs.Reading.{rowAt}
 use Rattle.format.specs.Refusals.{statedMeaning, openedMeaning, rowMeaning}
+use Rattle.format.specs.Runs.{decoded}
 use Rattle.format.specs.Stats.{stated}
 use Rattle.format.specs.Typed.{storedAs}
 use Rattle.format.specs.Writing.{written}
-use Rattle.format.proofs.Answers.{stated-injective, written-injective, opened-injective, row-injective, found-injective}
-use Rattle.u64_based.specs.Calls.{SerializedAs, OpenedAs, FoundAs}
+use Rattle.format.proofs.Answers.{stated-injective, written-injective, opened-injective, row-injective, found-injective, run-injective}
+use Rattle.u64_based.specs.Calls.{SerializedAs, OpenedAs, FoundAs, RunAs}
 
 -- two answers of `column_stats`
 pub stats-determined : (values : List ℕ) (a b : Stated) → statedMeaning a ≡ stated values → statedMeaning b ≡ stated values → a ≡ b
@@ -61,3 +63,11 @@ pub lookup-determined : (column : Column) (table bytes : List ℕ) (low high fir
     → (a ≡ b) × (after ≡ after′)
 lookup-determined column table bytes low high first end found a b after after′ p q =
     (found-injective a b (p .answer ∙ sym (q .answer)), p .list ∙ sym (q .list))
+
+-- two answers of `run`, and what the lent list holds afterwards
+pub run-determined : (column : Column) (table bytes : List ℕ) (first : ℕ) (out : List ℕ) (a b : RunRead) (after after′ : List ℕ)
+    → RunAs (decoded (rowAt column table bytes) (column .rows) first (length out)) a out after
+    → RunAs (decoded (rowAt column table bytes) (column .rows) first (length out)) b out after′
+    → (a ≡ b) × (after ≡ after′)
+run-determined column table bytes first out a b after after′ p q =
+    (run-injective a b (p .answer ∙ sym (q .answer)), p .list ∙ sym (q .list))

@@ -8,11 +8,14 @@ pub mod Serializing
 pub mod Opens
 -- reading a row
 pub mod Fitting
+-- decoding
+pub mod Chunks
 -- looking rows up
+pub mod Scans
 pub mod Turns
-pub mod Counting
-pub mod Filling
-pub mod Looking
+pub mod Seeking
+-- runs
+pub mod Walking
 -- what the contracts come to
 pub mod Determined
 pub mod Calls

@@ -5,9 +5,10 @@ use mathlib.Core.Path.{_≡_}
 use mathlib.Core.List.{List}
 use Rattle.format.specs.declared.Found.{Found}
 use Rattle.format.specs.declared.Opened.{Opened}
+use Rattle.format.specs.declared.RunRead.{RunRead}
 use Rattle.format.specs.declared.Written.{Written}
 use Rattle.format.specs.Outcome.{Outcome, howMany, stored}
-use Rattle.format.specs.Refusals.{openedMeaning, foundMeaning, writtenMeaning}
+use Rattle.format.specs.Refusals.{openedMeaning, foundMeaning, runMeaning, writtenMeaning}
 use Rattle.format.specs.Opening.{Loaded, columnIn, tableIn}
 
 -- of writing: the column stands at the output's front
@@ -23,4 +24,9 @@ pub record OpenedAs (o : Outcome Loaded) (r : Opened) (before after : List ℕ) 
 -- of looking up: the rows stand in the list
 pub record FoundAs (o : Outcome (List ℕ)) (r : Found) (before after : List ℕ) : Type 0 where
   pub answer : foundMeaning r ≡ howMany o
+  pub list : after ≡ stored o before
+
+-- of a run: the values fill the list
+pub record RunAs (o : Outcome (List ℕ)) (r : RunRead) (before after : List ℕ) : Type 0 where
+  pub answer : runMeaning r ≡ howMany o
   pub list : after ≡ stored o before

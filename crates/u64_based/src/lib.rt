@@ -4,6 +4,7 @@ mod choice;
 mod finding;
 mod opening;
 mod reader;
+mod runs;
 mod writer;
 
 ghost use mathlib.Core.Path.{_≡_};
@@ -16,7 +17,8 @@ ghost use Rattle.format.specs.Opening.{columnIn, opened};
 ghost use Rattle.format.specs.Lookup.{lookedUp, within};
 ghost use Rattle.format.specs.Reading.{rowAt};
 ghost use Rattle.format.specs.Typed.{storedAs};
-ghost use Rattle.u64_based.specs.Calls.{SerializedAs, OpenedAs, FoundAs};
+ghost use Rattle.u64_based.specs.Calls.{SerializedAs, OpenedAs, FoundAs, RunAs};
+ghost use Rattle.format.specs.Runs.{decoded};
 use choice::Best;
 use choice::Place;
 use format::Column;
@@ -26,6 +28,7 @@ use format::Kind;
 use format::Opened;
 use format::Refusal;
 use format::RowRead;
+use format::RunRead;
 use format::Stated;
 use format::Written;
 use stats::HeadRead;
@@ -113,7 +116,7 @@ pub fn row(column: Column, table: &[u64], bytes: &[u8], row: ColumnRow) -> RowRe
 }
 
 // The rows from `first` to `end`, cut to the column's rows, whose value lies from `low` to `high`, ascending into the first entries of `found`. The
-// first row that reading refuses decides, so the rows are counted before any is stored.
+// first row that reading refuses decides, so the rows are counted before any is stored: one loop over the chunks serves both passes.
 pub fn lookup(
     column: Column,
     table: &[u64],
@@ -126,14 +129,25 @@ pub fn lookup(
 ) -> Found
     ensures { λ r. ⌜ FoundAs (lookedUp (rowAt column (now (table .entry)) (now (bytes .entry))) (column .rows) (within low high) first end (length (now (found .entry)))) r (now (found .entry)) (now (found .exit)) ⌝ }
 {
-    let last = finding::cut(end, column.rows);
-    let counted = finding::count(column, table, bytes, low, high, first, last);
-    let Found::Rows(n) = counted else {
-        return counted;
-    };
-    if found.len() < n {
-        return Found::Refused(Refusal::ListShort { found: n });
+    let blocks = table.len() / 4;
+    let mut s = finding::begin(column.rows, first, end);
+    while s.going {
+        let block = blockwise_linear::reader::block_at(table, finding::block_of(s));
+        s = finding::step(column, blocks, block, bytes, low, high, s, found);
     }
-    finding::fill(column, table, bytes, low, high, first, last, found);
-    Found::Rows(n)
+    s.answer
+}
+
+// The values of the column's rows from `first` on, as many as the lent list has entries, into that list. A run that leaves the rows is refused before all else; then the
+// first row that reading refuses decides. A refusal leaves the list as it was.
+pub fn run(column: Column, table: &[u64], bytes: &[u8], first: u32, out: &mut [u64]) -> RunRead
+    ensures { λ r. ⌜ RunAs (decoded (rowAt column (now (table .entry)) (now (bytes .entry))) (column .rows) first (length (now (out .entry)))) r (now (out .entry)) (now (out .exit)) ⌝ }
+{
+    let blocks = table.len() / 4;
+    let mut w = runs::begin(column.rows, first, out.len());
+    while w.going {
+        let block = blockwise_linear::reader::block_at(table, runs::block_of(w));
+        w = runs::step(column, blocks, block, bytes, w, out);
+    }
+    w.answer
 }

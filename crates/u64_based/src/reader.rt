@@ -1,11 +1,14 @@
 // Reading a row, with its block out of the table.
 ghost use mathlib.Core.Path.{_≡_};
 ghost use mathlib.Core.Bool.{true, _||_};
-ghost use Prim.Native.Nat.{_+_, _*_};
+ghost use Prim.Native.Nat.{_+_, _*_, _^_, _≤_};
 ghost use lib.Dec.{leb, eqb};
+ghost use lib.ListN.{length};
 ghost use Rattle.format.specs.Packing.{legal};
-ghost use Rattle.format.specs.Reading.{hasBlock, placeOf, fits, rowIn};
+ghost use Rattle.format.specs.Reading.{hasBlock, placeOf, columnFits, rowFits, fits, valueAt, rowIn};
+ghost use Rattle.format.specs.Runs.{readRun};
 ghost use Rattle.format.specs.Refusals.{rowMeaning};
+ghost use Rattle.u64_based.specs.Chunks.{DecodedAs, FilledAs, Chunk, Fitting};
 use format::Block;
 use format::Codec;
 use format::Column;
@@ -76,9 +79,9 @@ fn ends_inside(size: usize, place: Place) -> bool
     (end + 7) / 8 <= area - place.start
 }
 
-// Whether column, table and bytes fit together at a row.
-fn fits(column: Column, blocks: usize, block: Block, bytes: &[u8], row: ColumnRow) -> bool
-    ensures { λ r. ⌜ r ≡ fits column blocks block (now (bytes .entry)) (row .0) ⌝ }
+// Whether column and bytes fit together, whatever the row.
+fn column_fits(column: Column, bytes: &[u8]) -> bool
+    ensures { λ r. ⌜ r ≡ columnFits column (now (bytes .entry)) ⌝ }
 {
     if column.gcd == 0 {
         return false;
@@ -86,6 +89,13 @@ fn fits(column: Column, blocks: usize, block: Block, bytes: &[u8], row: ColumnRo
     if !stats::bounds_fit(column.minimum, column.count, column.gcd) {
         return false;
     }
+    word::ends_within(column.start, column.size, bytes.len())
+}
+
+// Whether column and table fit together at a row.
+fn row_fits(column: Column, blocks: usize, block: Block, row: ColumnRow) -> bool
+    ensures { λ r. ⌜ r ≡ rowFits column blocks block (row .0) ⌝ }
+{
     let codec = column.codec;
     if !has_block(codec, blocks, row) {
         return false;
@@ -94,10 +104,17 @@ fn fits(column: Column, blocks: usize, block: Block, bytes: &[u8], row: ColumnRo
     if !is_legal(place.bits) {
         return false;
     }
-    if !word::ends_within(column.start, column.size, bytes.len()) {
+    ends_inside(column.size, place)
+}
+
+// Whether column, table and bytes fit together at a row.
+fn fits(column: Column, blocks: usize, block: Block, bytes: &[u8], row: ColumnRow) -> bool
+    ensures { λ r. ⌜ r ≡ fits column blocks block (now (bytes .entry)) (row .0) ⌝ }
+{
+    if !column_fits(column, bytes) {
         return false;
     }
-    ends_inside(column.size, place)
+    row_fits(column, blocks, block, row)
 }
 
 // A row of the column, with its block out of a table of so many: whether there is such a row, whether column, table and bytes fit
@@ -123,4 +140,82 @@ pub(crate) fn row_in(
         Codec::Linear(line, bits) => linear::reader::get_val(column, line, bits, bytes, row),
         Codec::Blockwise => blockwise_linear::reader::get_val(column, block, bytes, row),
     }
+}
+
+// What decoding a chunk finds: the values of its rows, which fill the list, or its first refused row.
+pub enum Decoded {
+    Whole,
+    Refused(Refusal),
+}
+
+// Internal: asks for rows below 2^32. The rows one by one, each with all its tests: the way of a chunk that does not fit as a whole.
+fn decode_rows(
+    column: Column,
+    blocks: usize,
+    block: Block,
+    bytes: &[u8],
+    first: ColumnRow,
+    out: &mut [u64],
+) -> Decoded
+    requires { ⌜ first .0 + length (now out) ≤ 2 ^ 32 ⌝ }
+    ensures { λ r. ⌜ DecodedAs (readRun (rowIn column blocks block (now (bytes .entry))) (first .0) (length (now (out .entry)))) r (now (out .exit)) ⌝ }
+{
+    let mut i = 0;
+    while i < out.len() {
+        let v = match row_in(column, blocks, block, bytes, ColumnRow(first.0 + i as u32)) {
+            RowRead::Value(v) => v,
+            RowRead::Refused(why) => return Decoded::Refused(why),
+        };
+        out[i] = v;
+        i += 1;
+    }
+    Decoded::Whole
+}
+
+// Internal: asks for a chunk that fits as a whole. Its rows with no test but that of the bounds; returns how many rows stand in the list.
+fn decode_fitting(
+    column: Column,
+    block: Block,
+    bytes: &[u8],
+    first: ColumnRow,
+    out: &mut [u64],
+) -> usize
+    requires { ⌜ Chunk column (first .0) (length (now out)) ⌝ }
+    requires { ⌜ Fitting column (placeOf column block (first .0)) (now bytes) ⌝ }
+    ensures { λ n. ⌜ FilledAs (readRun (valueAt column block (now (bytes .entry))) (first .0) (length (now (out .entry)))) n (first .0) (now (out .exit)) ⌝ }
+{
+    let codec = column.codec;
+    match codec {
+        Codec::Bitpacked => bitpacked::reader::get_range(column, bytes, first, out),
+        Codec::Linear(line, bits) => {
+            linear::reader::get_range(column, line, bits, bytes, first, out)
+        }
+        Codec::Blockwise => blockwise_linear::reader::get_range(column, block, bytes, first, out),
+    }
+}
+
+// Internal: asks for a chunk: rows of the column, at least one, that lie in one block. Their values, with the block out of a table of so many. What fits at the last row fits at all of
+// them, so that one test serves the chunk.
+pub(crate) fn decode(
+    column: Column,
+    blocks: usize,
+    block: Block,
+    bytes: &[u8],
+    first: ColumnRow,
+    out: &mut [u64],
+) -> Decoded
+    requires { ⌜ Chunk column (first .0) (length (now out)) ⌝ }
+    ensures { λ r. ⌜ DecodedAs (readRun (rowIn column blocks block (now (bytes .entry))) (first .0) (length (now (out .entry)))) r (now (out .exit)) ⌝ }
+{
+    let last = first.0 + (out.len() - 1) as u32;
+    if !fits(column, blocks, block, bytes, ColumnRow(last)) {
+        return decode_rows(column, blocks, block, bytes, first, out);
+    }
+    let n = decode_fitting(column, block, bytes, first, out);
+    if n < out.len() {
+        return Decoded::Refused(Refusal::OutOfBounds {
+            row: first.0 + n as u32,
+        });
+    }
+    Decoded::Whole
 }

@@ -53,6 +53,18 @@ unsafe extern "C" {
         found_len: usize,
         refusal: *mut [u64; 2],
     ) -> usize;
+
+    fn hulemartob_run(
+        column: *const [u64; 10],
+        table: *const u64,
+        table_len: usize,
+        bytes: *const u8,
+        bytes_len: usize,
+        first: u32,
+        out: *mut u64,
+        out_len: usize,
+        refusal: *mut [u64; 2],
+    ) -> usize;
 }
 
 /// What a call answered, by the two numbers of its refusal.
@@ -120,6 +132,26 @@ pub(crate) fn lookup(
             end,
             found.as_mut_ptr(),
             found.len(),
+            &mut refusal,
+        )
+    };
+    answer(refusal, many)
+}
+
+/// How many values now fill `out`.
+pub(crate) fn run(column: &[u64; 10], table: &[u64], bytes: &[u8], first: u32, out: &mut [u64]) -> Result<usize, Refusal> {
+    let mut refusal = [0; 2];
+    // SAFETY: see the top of this file.
+    let many = unsafe {
+        hulemartob_run(
+            column,
+            table.as_ptr(),
+            table.len(),
+            bytes.as_ptr(),
+            bytes.len(),
+            first,
+            out.as_mut_ptr(),
+            out.len(),
             &mut refusal,
         )
     };

@@ -169,6 +169,12 @@ impl<'a> Column<'a> {
         ffi::row(&self.numbers, &self.table, self.bytes, row)
     }
 
+    /// The values of the rows from `first` on, which now fill the lent list: how many they are. A refusal leaves the list as it was. Refused 12
+    /// if the run leaves the rows, then as the first row that [`Column::row`] refuses.
+    pub fn run_into(&self, first: u32, out: &mut [u64]) -> Result<usize, Refusal> {
+        ffi::run(&self.numbers, &self.table, self.bytes, first, out)
+    }
+
     /// The rows of a run whose value lies in a range, ascending. The run's end is cut to the column's rows. The first row of the run that
     /// [`Column::row`] refuses decides, whatever the range is. Refused 13 and 14.
     pub fn lookup(&self, values: RangeInclusive<u64>, rows: Range<u32>) -> Result<Vec<u32>, Refusal> {

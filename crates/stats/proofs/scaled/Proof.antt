@@ -1,22 +1,18 @@
 -- `stats::scaled` meets its contract: a multiple that the count reaches is as far above the minimum as the maximum at most.
 -- Assumes nothing.
-use Prim.Native.Nat.{ℕ, _+_, _*_, _^_, _≤_, _<_}
-use native.Mathlib.Nat.{mul-comm, mul-le-mul-left}
+use Prim.Native.Nat.{_+_, _*_, _^_, _<_}
 use native.Mathlib.Omega.{arith}
 use borrow.Author.Tests.{le-leb, lt-leb}
 use borrow.Author.Needs.{needs}
+use Rattle.format.proofs.Runs.{scaled-below}
 use Rattle.stats.proofs.scaled.Statement.{statement}
 use Rattle.stats.proofs.scaled.Tie as tie
 
--- a value of a multiple up to the count has 64 bits
-below : (low step count n : ℕ) → low + count * step < 2 ^ 64 → n ≤ count → low + step * n < 2 ^ 64
-below low step count n bounds h = omega (arith, mul-le-mul-left step h, mul-comm step count)
-
--- so it has where the test left it
+-- the value has 64 bits where the test left it
 room : (c : tie.Else1) → c .before .before .args .column .minimum + c .before .before .args .column .gcd * c .before .before .args .multiple < 2 ^ 64
 room c =
     let a = c .before .before .args in
-    below (a .column .minimum) (a .column .gcd) (a .column .count) (a .multiple) (search needs) (search needs)
+    scaled-below (a .column .minimum) (a .column .gcd) (a .column .count) (a .multiple) (search needs) (search needs)
 
 returns : tie.Need-returns
 returns c = rw (lt-leb _ _ (c .if1 .taken))

@@ -1,69 +1,70 @@
--- `u64_based::lookup` meets its contract: counting refused, or the list is too short, or the rows were stored.
+-- `u64_based::lookup` meets its contract: each turn leaves the lookup under way.
 -- Assumes nothing.
-use Prim.Native.Nat.{ℕ}
-use mathlib.Core.List.{[]}
+use Prim.Native.Nat.{_/_}
+use mathlib.Core.Path.{_≡_, refl, ap, _∙_}
 use denote.Ref.{now}
-use Rattle.format.specs.Outcome.{Outcome}
-use Rattle.format.specs.Reading.{rowAt}
-use Rattle.u64_based.proofs.Looking.{passes-on, fits, too-short, found-all}
+use lib.ListN.{length}
+use Rattle.format.specs.Lookup.{lookedUp, within}
+use Rattle.format.specs.Reading.{blockAt, rowAt}
+use Rattle.u64_based.specs.Calls.{FoundAs}
+use Rattle.u64_based.specs.Lookup.{left, Seeking}
+use Rattle.u64_based.proofs.Seeking.{is-going, is-over, kept-long}
 use borrow.Author.Needs.{needs}
 use Rattle.u64_based.proofs.lookup.Statement.{statement}
 use Rattle.u64_based.proofs.lookup.Tie as tie
 
--- how the column reads
-abbrev reads : tie.After-count → ℕ → Outcome ℕ
-reads c =
-    let a = c .before .before .before .before .before .args in
-    rowAt (a .column) (now (a .table)) (now (a .bytes))
+abbrev Inv-loop : tie.InvT-loop
+Inv-loop column table bytes low high first end found₀ blocks s₀ found s = Seeking (rowAt column table bytes) (within low high) (column .rows) (lookedUp (rowAt column table bytes) (column .rows) (within low high) first end (length found₀)) found₀ s found
 
-cut-requires : tie.Need-cut-requires
-cut-requires c κs = search needs
+abbrev μ-loop : tie.MeasureT-loop
+μ-loop column table bytes low high first end found₀ blocks s₀ found s = left s
 
-count-requires : tie.Need-count-requires
-count-requires c κs = search needs
+begin-requires : tie.Need-begin-requires Inv-loop μ-loop
+begin-requires c κs = search needs
 
-enum-known-counted : tie.Need-enum-known-counted
-enum-known-counted c = search needs
+loop-holds : tie.Need-loop-holds Inv-loop μ-loop
+loop-holds c = c .begin .ensures _ _ _
 
-enum-told : tie.Need-enum-told
-enum-told c = search needs
+block-of-requires : tie.Need-block-of-requires Inv-loop μ-loop
+block-of-requires c κs = search needs
 
-returns : tie.Need-returns
-returns c =
+block-at-requires : tie.Need-block-at-requires Inv-loop μ-loop
+block-at-requires c κs = search needs
+
+step-requires : tie.Need-step-requires Inv-loop μ-loop
+step-requires c κs =
+    let k = c .before .before .before in
+    is-going _ _ _ _ _ _ _ (k .before .loop .inv) (k .loop-test .taken)
+
+loop-less : tie.Need-loop-less Inv-loop μ-loop
+loop-less c = c .before .before .step .ensures .1
+
+loop-again : tie.Need-loop-again Inv-loop μ-loop
+loop-again c =
     let k = c .before .before in
-    passes-on (reads k) _ _ _ _ _ _ (k .before .cut .ensures) _ (k .count .ensures) _ (c .enum-told .given .1)
+    let b = k .before .before in
+    let l = b .before .before in
+    let a = l .before .before .before .before .before .before .args in
+    k .step .ensures .0 (now (a .table)) _ _ refl (b .block-at .ensures ∙ ap (blockAt (now (a .table))) (b .before .block-of .ensures)) (l .before .loop .inv)
 
-returns-2 : tie.Need-returns-2
-returns-2 c =
-    let k = c .before .before .before .before in
-    too-short (reads k) _ _ _ _ _ _ (k .before .cut .ensures) _ (k .count .ensures) _ (c .before .before .counted .given .1) (c .if1 .taken)
+same-length : tie.Need-same-length Inv-loop μ-loop
+same-length c = kept-long (is-over _ _ _ _ _ _ _ (c .before .loop .inv) (c .loop-test .left))
 
-fill-requires : tie.Need-fill-requires
-fill-requires c κs =
-    let e = c .before in
-    let k = e .before .before .before .before in
-    fits (reads k) _ _ _ _ _ [] (k .before .cut .ensures) _ (k .count .ensures) _ (e .before .before .counted .given .1) _ (e .if1 .left)
-
-same-length : tie.Need-same-length
-same-length c = search needs
-
-returns-3 : tie.Need-returns-3
-returns-3 c =
-    let e = c .before .before .before .before in
-    let k = e .before .before .before .before in
-    found-all (reads k) _ _ _ _ _ _ (k .before .cut .ensures) _ (k .count .ensures) _ (e .before .before .counted .given .1) _ (e .if1 .left)
-    (c .before .before .fill .ensures)
+returns : tie.Need-returns Inv-loop μ-loop
+returns c = is-over _ _ _ _ _ _ _ (c .before .loop .inv) (c .loop-test .left)
 
 pub lookup-spec : {M : Type 1} → statement M
 lookup-spec =
     tie.close
     (tie.spec
-    cut-requires
-    count-requires
-    enum-known-counted
-    enum-told
-    returns
-    returns-2
-    fill-requires
+    Inv-loop
+    μ-loop
+    begin-requires
+    loop-holds
+    block-of-requires
+    block-at-requires
+    step-requires
+    loop-less
+    loop-again
     same-length
-    returns-3)
+    returns)

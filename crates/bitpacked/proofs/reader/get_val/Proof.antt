@@ -17,20 +17,9 @@ use Rattle.format.specs.Outcome.{Outcome}
 use Rattle.format.specs.Packing.{width, legal, unpack}
 use Rattle.format.specs.Reading.{placeIn, packedOf, scaled, valueIn}
 use Rattle.format.proofs.Widths.{width-legal}
+use Rattle.bitpacked.proofs.Rows.{number-is, value-is}
 use Rattle.bitpacked.proofs.reader.get_val.Statement.{statement}
 use Rattle.bitpacked.proofs.reader.get_val.Tie as tie
-
--- a number of the width of the count, read from the rest of the bytes, is the row's
-module _ (col : Column) (b : Block) (s : List ℕ) (r : ℕ) (codec : col .codec ≡ Bitpacked) where
-  number-is : {w n : ℕ} → w ≡ width (col .count) → n ≡ unpack w (take (length s - col .start) (drop (col .start) s)) r → n ≡ packedOf col b s r
-  unfolding packedOf placeIn
-  number-is {w} {n} wide e =
-      rw (codec, add-zero)
-      (e ∙ rw (part-to-end s (col .start), wide))
-
-  value-is : {o : Outcome ℕ} {n : ℕ} → n ≡ packedOf col b s r → o ≡ scaled col r n → o ≡ valueIn (col .codec) col b r (packedOf col b s r)
-  unfolding valueIn
-  value-is is e = e ∙ ap (scaled col r) is ∙ ap (λ (k : Codec). valueIn k col b r (packedOf col b s r)) (sym codec)
 
 compute-num-bits-requires : tie.Need-compute-num-bits-requires
 compute-num-bits-requires c κs = search needs

@@ -10,9 +10,10 @@ use lib.ListN.{length}
 use borrow.Rule.Slice.PartAt.{part-to-end}
 use Rattle.format.specs.declared.Block.{Block}
 use Rattle.format.specs.declared.Column.{Column}
-use Rattle.format.specs.Packing.{unpack, numOf}
+use Rattle.format.specs.Packing.{unpack}
 use Rattle.format.proofs.Widths.{legal-most}
 use Rattle.blockwise_linear.specs.Reader.{Readable}
+use Rattle.blockwise_linear.proofs.Rows.{none}
 use borrow.Author.Needs.{needs}
 use Rattle.blockwise_linear.proofs.reader.residual.Statement.{statement}
 use Rattle.blockwise_linear.proofs.reader.residual.Tie as tie
@@ -20,11 +21,6 @@ use Rattle.blockwise_linear.proofs.reader.residual.Tie as tie
 -- a block that has bits starts within the bytes
 within : {col : Column} {b : Block} {s : List ℕ} → Readable col b s → (b .bits ≡ 0 → ⊥) → col .start + b .start ≤ length s
 within h some = ⊎-elim (λ none. absurd (some none)) (λ inside. inside) (h .start)
-
--- a number of no bits is 0
-none : {w : ℕ} (s : List ℕ) (i : ℕ) → w ≡ 0 → 0 ≡ unpack w s i
-unfolding unpack numOf
-none s i e = rw e
 
 -- so this block does
 inside : (c : tie.Else1) → c .before .before .before .args .column .start + c .before .before .before .args .block .start ≤ length (now (c .before .before .before .args .bytes))

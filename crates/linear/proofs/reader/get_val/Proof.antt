@@ -20,17 +20,9 @@ use Rattle.format.specs.Word.{modAdd}
 use Rattle.format.specs.Line.{lineAt}
 use Rattle.format.specs.Packing.{unpack}
 use Rattle.format.specs.Reading.{placeIn, packedOf, valueIn}
+use Rattle.linear.proofs.Rows.{value-is}
 use Rattle.linear.proofs.reader.get_val.Statement.{statement}
 use Rattle.linear.proofs.reader.get_val.Tie as tie
-
--- a number read from the rest of the bytes is the row's, and the line plus it is the row's value if the bounds have it
-value-is : (col : Column) (b : Block) (s : List ℕ) (l : Line) (w r : ℕ) {n at v : ℕ} {t : Bool} → col .codec ≡ Linear l w
-    → n ≡ unpack w (take (length s - col .start) (drop (col .start) s)) r → at ≡ lineAt l r → v ≡ modAdd at n
-    → (leb (col .minimum) v && leb v (col .minimum + col .gcd * col .count)) ≡ t
-    → (demand t 14 (r ∷ []) >> value v) ≡ valueIn (col .codec) col b r (packedOf col b s r)
-unfolding valueIn packedOf placeIn
-value-is col b s l w r codec number line sum test =
-    rw (← test, codec, add-zero, sum, line, number, part-to-end s (col .start))
 
 -- the entry of the function
 abbrev start : tie.After-add → tie.Start

@@ -7,7 +7,7 @@ use denote.Ref.{now}
 use borrow.Author.Tests.{lt-ltb, le-ltb, not-true, not-false}
 use Rattle.format.specs.Outcome.{Outcome}
 use Rattle.format.specs.Reading.{fits, packedOf, valueIn, rowIn}
-use Rattle.u64_based.proofs.Fitting.{bitpacked-reads, linear-reads, blocks-read}
+use Rattle.u64_based.proofs.Fitting.{fitting, bitpacked-reads, linear-reads, blocks-read}
 use borrow.Author.Needs.{needs}
 use Rattle.u64_based.proofs.reader.row_in.Statement.{statement}
 use Rattle.u64_based.proofs.reader.row_in.Tie as tie
@@ -42,19 +42,19 @@ enum-told : tie.Need-enum-told
 enum-told c = search needs
 
 get-val-requires : tie.Need-get-val-requires
-get-val-requires c κs = bitpacked-reads _ _ _ _ _ (fit (c .before .before)) (c .enum-told .given .1)
+get-val-requires c κs = bitpacked-reads _ _ _ _ (fitting _ _ _ _ _ (fit (c .before .before))) (c .enum-told .given .1)
 
 enum-known-codec : tie.Need-enum-known-codec
 enum-known-codec c = search needs
 
 get-val-requires-2 : tie.Need-get-val-requires-2
-get-val-requires-2 c κs = linear-reads _ _ _ _ _ (fit (c .before .before .before)) _ _ (c .before .codec .given .1)
+get-val-requires-2 c κs = linear-reads _ _ _ _ (fitting _ _ _ _ _ (fit (c .before .before .before))) _ _ (c .before .codec .given .1)
 
 enum-told-2 : tie.Need-enum-told-2
 enum-told-2 c = search needs
 
 get-val-requires-3 : tie.Need-get-val-requires-3
-get-val-requires-3 c κs = blocks-read _ _ _ _ _ (fit (c .before .before)) (c .enum-told2 .given .1)
+get-val-requires-3 c κs = blocks-read _ _ _ _ (fitting _ _ _ _ _ (fit (c .before .before))) (c .enum-told2 .given .1)
 
 returns-3 : tie.Need-returns-3
 returns-3 c = reads (c .before .before .before) (c .get-val .ensures _)
