@@ -180,14 +180,34 @@ def size_linear(stats, values):
     return len(stats.head()) + len(spell_line(slope, intercept)) + 1 + bytes_for(bits * stats.rows)
 
 
+def in_f32(n):
+    """A whole number rounded to f32: to 24 bits, halfway between two to the even one."""
+    unit = 1 << max(n.bit_length() - 24, 0)
+    units, rest = divmod(n, unit)
+    up = 2 * rest > unit or 2 * rest == unit and units % 2 == 1
+    return (units + up) * unit
+
+
+# How many f32s below 2^k the least one lies whose log2, rounded to f32, is at least k; k from 0 to 64, by the oracle's build.
+BELOW = (0,) * 3 + (1,) * 2 + (2,) * 4 + (5,) * 8 + (11,) * 16 + (22,) * 32
+
+
+def exponent(gcd):
+    """log2 of the gcd, in f32, without its fraction. The f32s below 2^k are 2^(k - 24) apart."""
+    return max(k for k, below in enumerate(BELOW) if in_f32(gcd) << 24 >= (1 << k) * ((1 << 24) - below))
+
+
+def saving(gcd, rows):
+    return in_f32(exponent(gcd) * in_f32(rows)) // 8
+
+
 def size_blockwise(stats, values):
     size = 4 + len(stats.head())
     for block in blocks_of(values):
         slope, intercept = train(block)
         bits = width(max(residuals(slope, intercept, block)))
         size += 1 + len(spell_line(slope, intercept)) + bytes_for(bits * len(block))
-    exponent = stats.gcd.bit_length() - 1
-    return max(size - exponent * stats.rows // 8, 0)
+    return max(size - saving(stats.gcd, stats.rows), 0)
 
 
 SIZES = (size_bitpacked, size_linear, size_blockwise)

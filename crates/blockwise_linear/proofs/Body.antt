@@ -16,14 +16,15 @@ use Rattle.format.specs.Outcome.{Wrote}
 use Rattle.format.specs.Packing.{numBytes}
 use Rattle.format.specs.Stats.{spellHead}
 use Rattle.format.specs.Bodies.{normalised, blocks, footer, blockwise}
-use Rattle.format.specs.Writing.{blockSizes, saving, sizeOf}
+use Rattle.format.specs.Saving.{saving}
+use Rattle.format.specs.Writing.{blockSizes, sizeOf}
+use Rattle.format.proofs.BlockBytes.{areas-few, entries-few, shares}
 use Rattle.format.proofs.Stores.{wrote-then}
 use Rattle.format.proofs.Gathering.{length-numBytes}
 use Rattle.stats.specs.Asked.{Describes}
 use Rattle.stats.proofs.Described.{sound-of, value-above}
 use Rattle.blockwise_linear.specs.declared.writer.Sizes.{Sizes}
 use Rattle.blockwise_linear.specs.Writer.{normals, Above, areas, entries, Takes, FewBytes}
-use Rattle.blockwise_linear.proofs.Blocks.{areas-few, entries-few, shares}
 
 -- ---- the values, normalised
 

@@ -10,3 +10,5 @@ pub mod Parts
 pub mod Walks
 pub mod Body
 pub mod Rows
+-- the saving
+pub mod Exponents

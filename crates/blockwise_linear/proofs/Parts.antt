@@ -19,7 +19,8 @@ use Rattle.blockwise_linear.specs.declared.writer.Fit.{Fit}
 use Rattle.blockwise_linear.specs.declared.writer.Fronts.{Fronts}
 use Rattle.blockwise_linear.specs.Writer.{normals, Part, Fitted, BlockTakes, Room, Places, Placed}
 use Rattle.format.proofs.WrittenBlocks.{residuals-fit}
-use Rattle.blockwise_linear.proofs.Blocks.{entry-length, width-most, residuals-count}
+use Rattle.format.proofs.BlockBytes.{block-width, entry-length}
+use Rattle.blockwise_linear.proofs.Blocks.{residuals-count}
 
 -- ---- the front of a buffer of 512
 
@@ -50,7 +51,7 @@ pub part-few : {minimum gcd : ℕ} {values : List ℕ} {at size : ℕ} → Part 
 part-few p = omega (arith, part-long p, p .few)
 
 pub fit-most : {ys rows : List ℕ} {fit : Fit} → Fitted ys rows fit → fit .bits ≤ 64
-fit-most {ys} f = omega (arith, f .bits, width-most ys)
+fit-most {ys} f = omega (arith, f .bits, block-width ys)
 
 -- a fitted block's rows packed; its line and the width byte
 pub takes-of : (size area n : ℕ) {ys rows : List ℕ} {fit : Fit} → length ys ≡ size → Fitted ys rows fit → area ≡ bytesFor (fit .bits * size) → n ≡ length (spellLine (fit .line))
@@ -69,7 +70,7 @@ room-of {ys} {rows} {out} {fit} {at} few f room =
     rw (f .left, f .bits)
     (record {
       few = omega (arith, residuals-count ys);
-      most = width-most ys;
+      most = block-width ys;
       fits = residuals-fit ys;
       room = rw (residuals-count ys, ← length-area ys) room;
     })

@@ -15,7 +15,8 @@ use Rattle.format.proofs.WrittenBlocks.{entry-most}
 use Rattle.blockwise_linear.specs.declared.writer.Fronts.{Fronts}
 use Rattle.blockwise_linear.specs.declared.writer.Sizes.{Sizes}
 use Rattle.blockwise_linear.specs.Writer.{areas, entries, BlockTakes, Takes, Places, Placed}
-use Rattle.blockwise_linear.proofs.Blocks.{joined-next, joined-none, area-most}
+use Rattle.format.proofs.BlockBytes.{area-most}
+use Rattle.blockwise_linear.proofs.Blocks.{joined-next, joined-none}
 
 -- the rows of the block that begins at `at`, and what is left behind it
 module _ (xs : List ℕ) (at size : ℕ) (h : at < length xs) (e : size ≡ min 512 (length xs - at)) where

@@ -5,15 +5,16 @@ ghost use mathlib.Core.List.{_++_, map};
 ghost use Prim.Native.Nat.{_+_, _-_, _/_, _^_, _≤_, _<_, min as lesser};
 ghost use lib.ListN.{length, take, drop};
 ghost use Rattle.format.specs.Outcome.{Wrote};
-ghost use Rattle.format.specs.Packing.{bitLength, packed, numBytes};
+ghost use Rattle.format.specs.Packing.{packed, numBytes};
 ghost use Rattle.format.specs.Stats.{spellHead};
 ghost use Rattle.format.specs.Stats as stated;
 ghost use Rattle.format.specs.Line.{residuals};
 ghost use Rattle.format.specs.Bodies.{normalised, blockwise};
-ghost use Rattle.format.specs.Writing.{saving, sizeOf};
+ghost use Rattle.format.specs.Writing.{sizeOf};
 ghost use Rattle.format.specs.Typed.{storedAs};
 ghost use Rattle.stats.specs.Asked.{Sound, Describes};
 ghost use Rattle.blockwise_linear.specs.Writer.{normals, partOf, Above, Part, Fitted, BlockTakes, Room, Places, Placed, areas, entries, Takes, FewBytes};
+use crate::saving::saving_of;
 use format::ColumnStats;
 use format::Kind;
 use format::Line;
@@ -251,24 +252,6 @@ fn put_four(out: &mut [u8], at: usize, n: u32) -> usize
     out[at + 2] = (n / 0x1_0000 % 0x100) as u8;
     out[at + 3] = (n / 0x100_0000 % 0x100) as u8;
     at + 4
-}
-
-// The exponent of the greatest power of two not above the gcd.
-fn exponent(gcd: u64) -> u64
-    ensures { λ r. ⌜ r ≡ bitLength gcd - 1 ⌝ }
-{
-    let bits = 64 - u64::leading_zeros(gcd);
-    if bits == 0 {
-        return 0;
-    }
-    (bits - 1) as u64
-}
-
-// What the gcd is thought to save of an estimate.
-fn saving_of(gcd: u64, rows: u32) -> u64
-    ensures { λ r. ⌜ r ≡ saving gcd rows ⌝ }
-{
-    exponent(gcd) * (rows as u64) / 8
 }
 
 // Internal: asks for statistics that a head can be made of, and for sizes that fewer than 2^32 values can have. The length of a body

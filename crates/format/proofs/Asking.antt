@@ -10,6 +10,7 @@ use Rattle.format.specs.Varint.{spell}
 use Rattle.format.specs.Packing.{width}
 use Rattle.format.specs.Stats.{greatest}
 use Rattle.format.specs.Line.{through, lineAt, trained, residuals}
+use Rattle.format.specs.Saving.{saving}
 use Rattle.format.specs.Writing.{written}
 use Rattle.format.specs.Opening.{Loaded, opened}
 use Rattle.format.specs.Reading.{rowAt}
@@ -20,9 +21,12 @@ use Rattle.format.specs.Comparing.{comparison}
 -- a number's spelling; its width; the line of four values; codecs, values and room; bytes and blocks; bytes, blocks and a row; a made-up column, table,
 -- bytes and a row; bytes, low, high, first, end and room; codecs, values and a row of what was written; bytes in a program; the listing of bytes; the
 -- comparison of two
+-- a number's spelling; its width; what a gcd saves over so many rows; the line of four values; codecs, values and room; bytes and blocks; bytes, blocks and a row; a made-up column, table,
+-- bytes and a row; bytes, low, high, first, end and room; codecs, values and a row of what was written; bytes in a program; the listing of bytes
 pub data Asked : Type 0 where
   spelling : ℕ → Asked
   widthOf : ℕ → Asked
+  savingOf : ℕ → ℕ → Asked
   training : List ℕ → Asked
   writing : List ℕ → List ℕ → ℕ → Asked
   opening : List ℕ → ℕ → Asked
@@ -59,6 +63,7 @@ alone o = o >>= (λ (v : ℕ). value (v ∷ []))
 unfoldable pub answer : Asked → Outcome (List ℕ)
 answer (spelling n) = value (spell n)
 answer (widthOf n) = value (width n ∷ [])
+answer (savingOf gcd rows) = value (saving gcd rows ∷ [])
 answer (training vs) = value (lineOf vs)
 answer (writing cs vs room) = written vs cs room
 answer (opening s room) = opened s room >>= (λ (o : Loaded). value (numbersOf o))

@@ -9,7 +9,8 @@ use Rattle.format.specs.Packing.{bytesNum, numBytes, width, bitLength, b
 use Rattle.format.specs.Stats.{statsOf, reduce, foldFrom, gcd, euclid, spellHead, readHead}
 use Rattle.format.specs.Line.{lineAt, trained, rising, height, slopeOf, nearer, residuals, residualsFrom, spellLine}
 use Rattle.format.specs.Bodies.{body, bitpacked, linear, linearLine, linearWidth, deviations, blockwise, blocks, blocksIn, blockArea, blockEntry, blockWidth, blockResiduals, joined, footer}
-use Rattle.format.specs.Writing.{written, known, chosen, sizeOf, blockSize, blockSizes, saving}
+use Rattle.format.specs.Writing.{written, known, chosen, sizeOf, blockSize, blockSizes}
+use Rattle.format.specs.Saving.{saving, exponentOf, lastReached, powerBounds, reaches, inF32, nearest}
 use Rattle.format.specs.Opening.{opened, openBody, openBitpacked, openLinear, openBlockwise, readWidth, readFields, readBlocks}
 use Rattle.format.specs.Reading.{rowIn, placeIn, columnFits, rowFits, fits, packedOf, valueIn}
 use Rattle.format.specs.Lookup.{lookedUp, allRead, rowsPassing}
@@ -71,5 +72,5 @@ cases = marked ++ (rules ++ longs)
 
 -- the definitions give the right answer to each
 pub cases-hold : map (λ (c : Case). answer (question c)) cases ≡ map said cases
-unfolding answer lineOf upwards downwards times spell spellIn scan readVarint width bitLength bitsIn packed bytesOf rowsBits bitsOf numOf unpack statsOf reduce foldFrom gcd euclid spellHead readHead lineAt trained rising height slopeOf nearer residuals residualsFrom spellLine written known chosen sizeOf body bitpacked linear linearLine linearWidth deviations blockwise blocks blocksIn blockArea blockEntry blockWidth blockResiduals joined footer numBytes blockSize blockSizes saving opened openBody openBitpacked openLinear openBlockwise readWidth readFields readBlocks bytesNum rowIn placeIn fits packedOf valueIn listing openedHere listed headLine named namedLine decimal decimalIn rowLine rowTexts comparison compared pairLines pairLine lookedUp allRead rowsPassing columnFits rowFits rowLines
+unfolding answer lineOf upwards downwards times spell spellIn scan readVarint width bitLength bitsIn packed bytesOf rowsBits bitsOf numOf unpack statsOf reduce foldFrom gcd euclid spellHead readHead lineAt trained rising height slopeOf nearer residuals residualsFrom spellLine written known chosen sizeOf body bitpacked linear linearLine linearWidth deviations blockwise blocks blocksIn blockArea blockEntry blockWidth blockResiduals joined footer numBytes blockSize blockSizes saving opened openBody openBitpacked openLinear openBlockwise readWidth readFields readBlocks bytesNum rowIn placeIn fits packedOf valueIn listing openedHere listed headLine named namedLine decimal decimalIn rowLine rowTexts comparison compared pairLines pairLine lookedUp allRead rowsPassing columnFits rowFits rowLines exponentOf lastReached powerBounds reaches inF32 nearest
 cases-hold = refl

@@ -17,6 +17,7 @@ pub mod Folds
 pub mod Gcds
 pub mod Statistics
 pub mod Lines
+pub mod Moved
 pub mod LineFields
 pub mod Heads
 -- opening, reading, looking up
@@ -34,18 +35,23 @@ pub mod StoredLists
 pub mod TypedLookups
 -- writing
 pub mod RoundTrip
+pub mod Savings
+pub mod Exponents
 pub mod Choosing
 pub mod Writes
 pub mod Bitpacked
 pub mod Linear
 pub mod WrittenBlocks
+pub mod BlockBytes
 pub mod Blockwise
 pub mod WrittenBytes
--- the demands
+-- the demands, and lengths
 pub mod Demand2
 pub mod Demand3
 pub mod TypedDemands
 pub mod Example
+pub mod Lengths
+pub mod MostBytes
 -- cases, computed
 pub mod Asking
 pub mod RuleCases

@@ -1,6 +1,6 @@
 -- Sizes, the choice of a codec, and writing.
 -- Assumes nothing.
-use Prim.Native.Nat.{ℕ, zero, suc, _+_, _-_, _*_, _/_, _^_}
+use Prim.Native.Nat.{ℕ, zero, suc, _+_, _-_, _*_, _^_}
 use mathlib.Core.Option.{Option, none, some}
 use mathlib.Core.List.{List, [], _∷_}
 use lib.Dec.{ltb, leb}
@@ -8,10 +8,11 @@ use lib.ListN.{length}
 use Rattle.format.specs.declared.ColumnStats.{ColumnStats}
 use Rattle.format.specs.Outcome.{Outcome, Outcome.value, Outcome.refusal, _>>=_, _>>_, demand, pick}
 use Rattle.format.specs.Word.{bytesFor}
-use Rattle.format.specs.Packing.{width, bitLength}
+use Rattle.format.specs.Packing.{width}
 use Rattle.format.specs.Stats.{statsOf, countOf, spellHead}
 use Rattle.format.specs.Line.{trained, spellLine}
 use Rattle.format.specs.Bodies.{linearLine, linearWidth, blocks, blockWidth, columnBy}
+use Rattle.format.specs.Saving.{saving}
 
 -- ---- sizes, without the code byte
 
@@ -23,10 +24,6 @@ blockSize ys = 1 + length (spellLine (trained ys)) + bytesFor (blockWidth ys * l
 unfoldable pub blockSizes : List (List ℕ) → ℕ
 blockSizes [] = 0
 blockSizes (b ∷ bs) = blockSize b + blockSizes bs
-
--- what a gcd is thought to save over so many rows: e bits a row, for the largest e with 2^e at most the gcd, in whole bytes; nothing for gcd 1
-unfoldable pub saving : (gcd rows : ℕ) → ℕ
-saving gcd rows = (bitLength gcd - 1) * rows / 8
 
 -- a codec's size by its number; none where it does not apply. Blockwise is sized on blocks of the raw values, and never below 0
 unfoldable pub sizeOf : (codec : ℕ) → ColumnStats → List ℕ → Option ℕ

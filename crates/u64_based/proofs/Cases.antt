@@ -16,7 +16,8 @@ use Rattle.format.specs.Packing.{width, bitLength, bitsIn, packed, bytesOf, row
 use Rattle.format.specs.Stats.{statsOf, reduce, foldFrom, gcd, euclid, spellHead}
 use Rattle.format.specs.Line.{lineAt, trained, rising, height, slopeOf, nearer, residuals, residualsFrom, spellLine}
 use Rattle.format.specs.Bodies.{body, bitpacked, blockwise, blocks, blocksIn, blockArea, blockEntry, blockWidth, blockResiduals, joined, footer}
-use Rattle.format.specs.Writing.{written, known, chosen, sizeOf, blockSize, blockSizes, saving}
+use Rattle.format.specs.Saving.{saving, exponentOf, lastReached, powerBounds, reaches, inF32, nearest}
+use Rattle.format.specs.Writing.{written, known, chosen, sizeOf, blockSize, blockSizes}
 use Rattle.format.proofs.Answers.{written-injective}
 use Rattle.u64_based.specs.Writing.{lent}
 use Rattle.u64_based.specs.Calls.{SerializedAs}
@@ -83,5 +84,5 @@ each [] e = tt
 each (c ∷ cs) e = (by-definition c (λ room. same-first (e room)), each cs (λ room. same-rest (e room)))
 
 pub columns-written : All columns
-unfolding spell spellIn width bitLength bitsIn packed bytesOf rowsBits bitsOf numOf numBytes statsOf reduce foldFrom gcd euclid spellHead lineAt trained rising height slopeOf nearer residuals residualsFrom spellLine body bitpacked blockwise blocks blocksIn blockArea blockEntry blockWidth blockResiduals joined footer written known chosen sizeOf blockSize blockSizes saving
+unfolding spell spellIn width bitLength bitsIn packed bytesOf rowsBits bitsOf numOf numBytes statsOf reduce foldFrom gcd euclid spellHead lineAt trained rising height slopeOf nearer residuals residualsFrom spellLine body bitpacked blockwise blocks blocksIn blockArea blockEntry blockWidth blockResiduals joined footer written known chosen sizeOf blockSize blockSizes saving exponentOf lastReached powerBounds reaches inF32 nearest
 columns-written = each columns (λ room. refl)

@@ -27,7 +27,7 @@ pub fn stats(values: &[u64]) -> column_values::ColumnStats {
     column_values::MergedColumnValues::stats(values)
 }
 
-/// The size of each codec, none where it does not apply, with Blockwise's reduction by the gcd worked out in whole numbers and not in f32.
-pub fn sizes_by_whole_numbers(values: &[u64], codecs: &[CodecType]) -> Vec<Option<u64>> {
-    codecs.iter().map(|&codec| column_values::MergedColumnValues::size_by_whole_numbers(values, codec)).collect()
+/// The size of each codec, none where it does not apply.
+pub fn sizes(values: &[u64], codecs: &[CodecType]) -> Vec<Option<u64>> {
+    codecs.iter().map(|&codec| column_values::MergedColumnValues::size(values, codec)).collect()
 }

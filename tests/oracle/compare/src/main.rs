@@ -53,24 +53,11 @@ fn write(tally: &mut Tally, values: &[u64], codecs: &[u8]) -> Result<Vec<u8>, Re
     Ok(out)
 }
 
-/// Whether the choice differs because the crate takes the saving in f32: with whole numbers its own sizes choose our codec, and its bytes by
-/// that codec are ours.
-fn chosen_by_whole_numbers(values: &[u64], codecs: &[u8], ours: &[u8]) -> bool {
-    let sizes = columnar::sizes_by_whole_numbers(values, &rust::codec_types(codecs));
-    let sized = codecs.iter().zip(sizes).filter_map(|(&codec, size)| Some((size?, codec)));
-    let chosen = sized.min_by_key(|&(size, _)| size).map(|(_, codec)| codec);
-    chosen == Some(ours[0]) && rust::write(values, &ours[..1]).as_deref() == Ok(ours)
-}
-
 fn compare_writing(tally: &mut Tally, values: &[u64], codecs: &[u8]) -> Option<Vec<u8>> {
     let theirs = rust::write(values, codecs);
     match (write(tally, values, codecs), theirs) {
         (Ok(ours), Ok(theirs)) if ours == theirs => {
             tally.alike(format!("columns written, codec {}", ours[0]), 1);
-            return Some(ours);
-        }
-        (Ok(ours), Ok(theirs)) if ours[0] != theirs[0] && chosen_by_whole_numbers(values, codecs, &ours) => {
-            tally.differ("choice", Some(Cause::SavingInF32), values.len(), || format!("codecs {codecs:?}, {values:?}"));
             return Some(ours);
         }
         (Err(Refusal { number: 3, value: 0 }), Err(rust::Failed::Error)) => tally.alike("lists that no listed codec takes", 1),
@@ -214,12 +201,12 @@ fn compare_list(tally: &mut Tally, random: &mut Random, values: &[u64]) {
 
 /// Whether two of the codecs take the same size, so that the order of the list decides.
 fn ties(values: &[u64]) -> bool {
-    let sizes = columnar::sizes_by_whole_numbers(values, &rust::codec_types(&[0, 1, 2]));
+    let sizes = columnar::sizes(values, &rust::codec_types(&[0, 1, 2]));
     let applying: Vec<u64> = sizes.into_iter().flatten().collect();
     applying.iter().enumerate().any(|(i, size)| applying[..i].contains(size))
 }
 
-/// The smallest inputs of docs/DIFFERENCES.md on which the choice differs, which a generated list meets too seldom.
+/// Small lists whose choice hangs on the saving being worked out in f32, which a generated list meets too seldom.
 fn lists_of_note() -> [(Vec<u64>, &'static [u8]); 2] {
     [(vec![0, u64::MAX], &[2, 0]), ((0..7).rev().map(|i| 2_097_151 * i).collect(), &[0, 2])]
 }

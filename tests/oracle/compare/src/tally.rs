@@ -8,7 +8,6 @@ use std::fmt;
 pub enum Cause {
     BelowMinimum,
     EndNotCut,
-    SavingInF32,
     RowsCut,
     BoundsWrap,
     FieldsPastFooter,
@@ -22,7 +21,6 @@ impl fmt::Display for Cause {
         f.write_str(match self {
             Cause::BelowMinimum => "Bitpacked: a range wholly below the minimum finds the rows at the minimum",
             Cause::EndNotCut => "Bitpacked: the end row is not cut to the rows",
-            Cause::SavingInF32 => "Blockwise's saving is worked out in f32: another codec is chosen",
             Cause::RowsCut => "rows are cut to 32 bits (8 here)",
             Cause::BoundsWrap => "minimum + gcd * count wraps (8 here)",
             Cause::FieldsPastFooter => "block fields are read on into the footer's length (6 here)",

@@ -1,0 +1,4 @@
+-- Laws that the functions' proofs cite; the head of each file lists what it offers.
+pub mod Values
+pub mod Marks
+pub mod Rounded
