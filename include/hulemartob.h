@@ -69,9 +69,11 @@ size_t hulemartob_serialize(const uint64_t *values, size_t values_len, const uin
 
 /* Opens the column that `bytes` hold: its ten numbers are now in `column`, and its blocks, if it is Blockwise, the first numbers of
  * `table`; the rest of the table is unchanged. Bytes behind the column are accepted. Refused 5 to 11. A table of no numbers is enough
- * for Bitpacked and Linear, and else is refused 11 with the blocks needed. */
-void hulemartob_open(const uint8_t *bytes, size_t bytes_len, uint64_t *table, size_t table_len, uint64_t column[10],
-                     uint64_t refusal[2]);
+ * for Bitpacked and Linear, and else is refused 11 with the blocks needed.
+ * Returns the offset of the first number, in the head, Linear's line or the blocks' fields, that is spelled in more bytes than it need be;
+ * UINT64_MAX where all are spelled as short as can be, and on refusal. */
+uint64_t hulemartob_open(const uint8_t *bytes, size_t bytes_len, uint64_t *table, size_t table_len, uint64_t column[10],
+                         uint64_t refusal[2]);
 
 /* Reads a row of an opened column, with the table and the bytes of its opening. Returns the value, 0 on refusal. Refused 12 to 14. */
 uint64_t hulemartob_row(const uint64_t column[10], const uint64_t *table, size_t table_len, const uint8_t *bytes, size_t bytes_len,

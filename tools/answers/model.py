@@ -304,6 +304,27 @@ def open_blocks(s, at, rows, room):
     return table, size
 
 
+def first_longer(s):
+    """The offset of the first number of a column that opens whose spelling is longer than it need be, 0 where there is none."""
+    rows, at = read_head(s)[3:]
+    fields = [(s, 1, 4)]
+    if s[0] == LINEAR:
+        fields.append((s, at, 2))
+    if s[0] == BLOCKWISE:
+        end = len(s) - 4
+        at = end - int.from_bytes(s[end:], "little")
+        for _ in range((rows + BLOCK - 1) // BLOCK):
+            fields.append((s[:end], at, 2))
+            at = read_fields(s[:end], at)[3]
+    for part, at, count in fields:
+        for _ in range(count):
+            value, after = read_varint(part, at)
+            if part[at:after] != varint(value):
+                return at
+            at = after
+    return 0
+
+
 # ---- reading and looking up
 
 

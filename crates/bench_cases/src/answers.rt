@@ -3,6 +3,7 @@ use crate::words::after;
 use crate::words::word_at;
 use format::Refusal;
 use format::RowRead;
+use format::Spelling;
 
 // A refusal's number and what it also returns; the number is 0 for success.
 pub(crate) struct Answer {
@@ -23,6 +24,17 @@ impl Answer {
 // Success, with nothing beside it.
 pub(crate) fn success() -> Answer {
     Answer { number: 0, also: 0 }
+}
+
+// An opening: the offset of the first longer spelling stands where a refusal returns something. No number stands at offset 0.
+pub(crate) fn of_opening(spelling: Spelling) -> Answer {
+    match spelling {
+        Spelling::Shortest => success(),
+        Spelling::Longer { offset } => Answer {
+            number: 0,
+            also: offset as u64,
+        },
+    }
 }
 
 // What a refusal also returns.

@@ -1,8 +1,8 @@
 // The records OPEN and MADE: a column that is opened or put together, and then asked. Each function is told the record's place and its end.
 use crate::answers::Outcome;
 use crate::answers::nothing_asked;
+use crate::answers::of_opening;
 use crate::answers::refused;
-use crate::answers::success;
 use crate::lent::NUMBER;
 use crate::lent::numbers_kept;
 use crate::lent::numbers_stored;
@@ -138,8 +138,8 @@ fn nothing_stored(file: &[u8], at: usize) -> bool {
 fn opened_alike(bytes: &[u8], table: &mut [u64], file: &[u8], at: usize, end: usize) -> Outcome {
     let from = asked_place(file, at);
     match u64_based::open(bytes, table) {
-        Opened::Column(column) => {
-            if !success().is_stored(file, after(at, 2)) {
+        Opened::Column(column, spelling) => {
+            if !of_opening(spelling).is_stored(file, after(at, 2)) {
                 return nothing_asked(false);
             }
             if !column_stored(column, file, at) {

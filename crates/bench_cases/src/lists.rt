@@ -4,6 +4,7 @@ ghost use mathlib.Core.Path.{_≡_};
 ghost use lib.ListN.{length};
 use crate::answers::Outcome;
 use crate::answers::nothing_asked;
+use crate::answers::of_opening;
 use crate::answers::refused;
 use crate::answers::success;
 use crate::lent::BYTE;
@@ -123,13 +124,16 @@ fn rows_back(column: Column, table: &[u64], bytes: &[u8], values: &[u64]) -> usi
 fn read_back(bytes: &[u8], values: &[u64]) -> Outcome {
     let mut table = [0u64; 64];
     match u64_based::open(bytes, &mut table) {
-        Opened::Column(column) => {
+        Opened::Column(column, spelling) => {
+            let shortest = of_opening(spelling).also == 0;
             let back = rows_back(column, &table, bytes, values);
             Outcome {
                 rows: 0,
                 lookups: 0,
                 back,
-                alike: back == values.len() && column.rows as u64 == values.len() as u64,
+                alike: shortest
+                    && back == values.len()
+                    && column.rows as u64 == values.len() as u64,
             }
         }
         Opened::Refused(_) => nothing_asked(false),

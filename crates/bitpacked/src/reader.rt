@@ -27,7 +27,8 @@ pub fn load(bytes: &[u8], head: Head) -> Opened
     if !word::ends_within(head.next, size, bytes.len()) {
         return Opened::Refused(Refusal::AreaShort);
     }
-    Opened::Column(Column {
+    let spelling = head.spelling;
+    let column = Column {
         minimum: head.minimum,
         gcd: head.gcd,
         count: head.count,
@@ -35,7 +36,8 @@ pub fn load(bytes: &[u8], head: Head) -> Opened
         start: head.next,
         size,
         codec: Codec::Bitpacked,
-    })
+    };
+    Opened::Column(column, spelling)
 }
 
 // Internal: asks for a Bitpacked column whose maximum has 64 bits and whose area starts within the bytes. The value of a row, which no block has a part in.

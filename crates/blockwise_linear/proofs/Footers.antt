@@ -1,6 +1,6 @@
 -- The footer's length, and opening by the area alone.
 --     length-step, length-small             the last bytes as one number, gathered from the end
---     column-by-area                        what opening finds depends on the blocks only through the bytes of their area
+--     column-by-area                        what opening finds depends on the blocks only through the bytes of their area and their spelling
 -- Assumes nothing.
 use mathlib.Core.Path.{_≡_, refl, ap, _∙_}
 use mathlib.Core.Bool.{Bool, true, false, _&&_}
@@ -10,18 +10,18 @@ use native.Mathlib.Omega.{arith}
 use lib.Dec.{leb}
 use lib.ListN.{length, drop, getD, length-drop}
 use lib.Seq.{drop-cons, take-all}
-use Rattle.format.specs.declared.Codec.the-variants.{Blockwise}
 use Rattle.format.specs.declared.Column.{Column}
 use Rattle.format.specs.declared.Head.{Head}
+use Rattle.format.specs.declared.Spelling.{Spelling}
 use Rattle.format.specs.Outcome.{Outcome, Outcome.value, Outcome.refusal, _>>=_, _>>_, demand}
 use Rattle.format.specs.Word.{AllBelow}
 use Rattle.format.specs.Packing.{bytesNum}
 use Rattle.format.specs.Bodies.{blockCount}
-use Rattle.format.specs.Opening.{Loaded, Table, columnOf, columnIn, openBlockwise}
+use Rattle.format.specs.Opening.{Loaded, Table, columnIn, openBlockwise}
 use Rattle.format.proofs.Lists.{all-drop}
 use Rattle.format.proofs.Gathering.{bytesNum-below}
 use Rattle.format.proofs.Openings.{blockwiseOf}
-use Rattle.blockwise_linear.specs.Reader.{lengthIn, firstCursor, blocksFrom, areaIn}
+use Rattle.blockwise_linear.specs.Reader.{lengthIn, firstCursor, blocksFrom, areaIn, columnOver}
 
 -- ---- the footer's length
 
@@ -54,7 +54,7 @@ column-behind false n also o = refl
 -- the blocks as their area alone
 column-area : (h : Head) (end : ℕ) (o : Outcome Table)
     → columnIn (o >>= (λ (t : Table). demand (leb (h .next + t .area) end) 10 [] >> value (blockwiseOf h t)))
-    ≡ (areaIn o >>= (λ (n : ℕ). demand (leb (h .next + n) end) 10 [] >> value (columnOf h (h .next) n Blockwise)))
+    ≡ (areaIn o >>= columnOver h end)
 column-area h end (value t) = column-behind (leb (h .next + t .area) end) 10 [] (value (blockwiseOf h t))
 column-area h end (refusal n also) = refl
 
@@ -63,8 +63,7 @@ pub column-by-area : (s : List ℕ) (h : Head) (room : ℕ)
     → columnIn (openBlockwise s h room)
     ≡ (demand (leb (h .next + 4) (length s) && leb (h .next + lengthIn s) (length s - 4)) 10 []
     >> (demand (leb (blockCount (h .rows)) room) 11 (blockCount (h .rows) ∷ [])
-    >> (areaIn (blocksFrom s (firstCursor s (h .rows)))
-    >>= (λ (n : ℕ). demand (leb (h .next + n) (firstCursor s (h .rows) .at)) 10 [] >> value (columnOf h (h .next) n Blockwise)))))
+    >> (areaIn (blocksFrom s (firstCursor s (h .rows))) >>= columnOver h (firstCursor s (h .rows) .at))))
 unfolding openBlockwise
 column-by-area s h room =
     let four = leb (h .next + 4) (length s) in
@@ -76,4 +75,5 @@ column-by-area s h room =
     let inner : Outcome Loaded = blocks >>= (λ (t : Table). demand (leb (h .next + t .area) end) 10 [] >> value (blockwiseOf h t)) in
     ap columnIn (both four fits 10 [] (demand enough 11 also >> inner))
     ∙ column-behind (four && fits) 10 [] (demand enough 11 also >> inner)
-    ∙ ap (λ (o : Outcome Column). demand (four && fits) 10 [] >> o) (column-behind enough 11 also inner ∙ ap (λ (o : Outcome Column). demand enough 11 also >> o) (column-area h end blocks))
+    ∙ ap (λ (o : Outcome (Column × Spelling)). demand (four && fits) 10 [] >> o)
+    (column-behind enough 11 also inner ∙ ap (λ (o : Outcome (Column × Spelling)). demand enough 11 also >> o) (column-area h end blocks))

@@ -14,8 +14,11 @@ use native.Mathlib.Omega.{arith}
 use lib.ListN.{length, set, length-set}
 use lib.Seq.{sets}
 use Rattle.format.specs.declared.Fields.{Fields}
+use Rattle.format.specs.declared.Spelling.{Spelling}
+use Rattle.format.specs.declared.Spelling.the-variants.{Shortest, Longer}
 use Rattle.format.specs.Outcome.{Outcome, Outcome.value, Outcome.refusal, _>>=_, stored}
 use Rattle.format.specs.Word.{bytesFor}
+use Rattle.format.specs.Varint.{firstOf}
 use Rattle.format.specs.Bodies.{blockCount}
 use Rattle.format.specs.Opening.{Table, blockBefore, readFields, readBlocks}
 use Rattle.format.proofs.Outcomes.{value-same, by-step}
@@ -25,6 +28,11 @@ use Rattle.blockwise_linear.specs.declared.reader.Cursor.{Cursor}
 use Rattle.blockwise_linear.specs.declared.reader.Step.{Step}
 use Rattle.blockwise_linear.specs.Reader.{upToLength, firstCursor, stepOf, stepIn, blocksFrom, areaIn, numbersIn, Small, Good, Fillable}
 
+-- nothing longer follows
+first-alone : (p : Spelling) → firstOf p Shortest ≡ p
+first-alone Shortest = refl
+first-alone (Longer offset) = refl
+
 -- ---- a block and those behind it
 
 -- a table behind a block's four numbers
@@ -33,13 +41,14 @@ before t later =
     record {
       numbers = t .block .line .slope ∷ t .block .line .intercept ∷ t .block .bits ∷ t .block .start ∷ later .numbers;
       area = later .area;
+      spelling = firstOf (t .spelling) (later .spelling);
     }
 
 abbrev behind : Step → Outcome Table → Outcome Table
 behind t o = o >>= (λ (later : Table). value (before t later))
 
 -- no rows are left: no blocks
-none-left : (s : List ℕ) (c : Cursor) → c .left ≤ 0 → blocksFrom s c ≡ value (record { numbers = []; area = c .start })
+none-left : (s : List ℕ) (c : Cursor) → c .left ≤ 0 → blocksFrom s c ≡ value (record { numbers = []; area = c .start; spelling = Shortest })
 unfolding readBlocks
 none-left s c h =
     let none : blockCount (c .left) ≡ 0 = omega arith in
@@ -74,32 +83,37 @@ step-less s c t e = by-step (readFields (upToLength s) (c .at)) _ e λ f at-f e.
 
 -- ---- the first pass
 
--- the blocks from c on give the area that those from the first place on give
-pub record Checking (s : List ℕ) (first c : Cursor) : Type 0 where
-  pub small : Small c
-  pub rest : areaIn (blocksFrom s first) ≡ areaIn (blocksFrom s c)
+-- the area and the spelling of some blocks, behind others that were spelled so
+abbrev areaBehind : Spelling → Outcome Table → Outcome (ℕ × Spelling)
+areaBehind p o = o >>= (λ (t : Table). value (t .area, firstOf p (t .spelling)))
 
-pub checking-starts : (s : List ℕ) (first : Cursor) → Small first → Checking s first first
+-- the blocks from c on give the area that those from the first place on give, and behind those before c their spelling
+pub record Checking (s : List ℕ) (first c : Cursor) (spelling : Spelling) : Type 0 where
+  pub small : Small c
+  pub rest : areaIn (blocksFrom s first) ≡ areaBehind spelling (blocksFrom s c)
+
+pub checking-starts : (s : List ℕ) (first : Cursor) → Small first → Checking s first first Shortest
 checking-starts s first small = record { small = small; rest = refl }
 
--- a block's numbers do not change the area
-area-behind : (t : Step) (o : Outcome Table) → areaIn (behind t o) ≡ areaIn o
-area-behind t (value later) = refl
-area-behind t (refusal n also) = refl
+-- a block's numbers do not change the area, and its spelling joins those before it
+area-behind : (p : Spelling) (t : Step) (o : Outcome Table) → areaBehind p (behind t o) ≡ areaBehind (firstOf p (t .spelling)) o
+area-behind Shortest t (value later) = refl
+area-behind (Longer offset) t (value later) = refl
+area-behind p t (refusal n also) = refl
 
-module _ {s : List ℕ} {first c : Cursor} (k : Checking s first c) where
-  pub checking-more : (t : Step) → stepIn s c ≡ value t → 0 < c .left → Checking s first (t .next)
+module _ {s : List ℕ} {first c : Cursor} {p : Spelling} (k : Checking s first c p) where
+  pub checking-more : (t : Step) → stepIn s c ≡ value t → 0 < c .left → Checking s first (t .next) (firstOf p (t .spelling))
   checking-more t e h =
       record {
         small = step-small s c t (k .small) e;
-        rest = k .rest ∙ rw (by-block s c h, e) (area-behind t (blocksFrom s (t .next)));
+        rest = k .rest ∙ rw (by-block s c h, e) (area-behind p t (blocksFrom s (t .next)));
       }
 
   pub checking-refused : (n : ℕ) (also : List ℕ) → stepIn s c ≡ refusal n also → 0 < c .left → areaIn (blocksFrom s first) ≡ refusal n also
   checking-refused n also e h = k .rest ∙ rw (by-block s c h, e)
 
-  pub checking-ends : c .left ≤ 0 → areaIn (blocksFrom s first) ≡ value (c .start)
-  checking-ends h = k .rest ∙ rw (none-left s c h)
+  pub checking-ends : c .left ≤ 0 → areaIn (blocksFrom s first) ≡ value (c .start, p)
+  checking-ends h = k .rest ∙ rw (none-left s c h) (ap (λ (q : Spelling). value (c .start, q)) (first-alone p))
 
 -- ---- the second pass
 
@@ -150,5 +164,5 @@ module _ {s : List ℕ} {rows : ℕ} {l₀ : List ℕ} {c : Cursor} {i : ℕ} {l
 
   pub filling-ends : c .left ≤ 0 → l ≡ stored (numbersIn (blocksFrom s (firstCursor s rows))) l₀
   filling-ends h =
-      let done : record { numbers = []; area = c .start } ≡ k .later = value-same (sym (none-left s c h) ∙ k .good) in
+      let done : record { numbers = []; area = c .start; spelling = Shortest } ≡ k .later = value-same (sym (none-left s c h) ∙ k .good) in
       sym (k .rest ∙ ap (λ (u : Table). sets l i (u .numbers)) (sym done))

@@ -2,21 +2,24 @@
 -- Assumes nothing.
 use Prim.Native.Nat.{ℕ, _+_, _-_, _*_, _^_, _≤_, _<_, min}
 use mathlib.Core.Path.{_≡_}
-use mathlib.Core.List.{List}
+use mathlib.Core.List.{List, []}
 use mathlib.Core.Bool.{true}
 use mathlib.Core.Logic.{_⊎_}
-use lib.Dec.{eqb}
+use lib.Dec.{eqb, leb}
 use lib.ListN.{length, take, drop}
 use Rattle.format.specs.declared.Fields.{Fields}
 use Rattle.format.specs.declared.Block.{Block}
 use Rattle.format.specs.declared.Codec.the-variants.{Blockwise}
 use Rattle.format.specs.declared.Column.{Column}
-use Rattle.format.specs.Outcome.{Outcome, Outcome.value, _>>=_, pick}
+use Rattle.format.specs.declared.Head.{Head}
+use Rattle.format.specs.declared.Spelling.{Spelling}
+use Rattle.format.specs.Outcome.{Outcome, Outcome.value, _>>=_, _>>_, demand, pick}
 use Rattle.format.specs.Refusals.{numbered}
 use Rattle.format.specs.Word.{bytesFor}
+use Rattle.format.specs.Varint.{firstOf}
 use Rattle.format.specs.Packing.{bytesNum, legal}
 use Rattle.format.specs.Bodies.{blockCount}
-use Rattle.format.specs.Opening.{Table, readFields, readBlocks}
+use Rattle.format.specs.Opening.{Table, columnOf, readFields, readBlocks}
 use Rattle.blockwise_linear.specs.declared.reader.Cursor.{Cursor}
 use Rattle.blockwise_linear.specs.declared.reader.Step.{Step}
 use Rattle.blockwise_linear.specs.declared.reader.StepRead.{StepRead}
@@ -36,12 +39,13 @@ lengthIn s = bytesNum (drop (length s - 4) s)
 abbrev pub firstCursor : (s : List ℕ) (rows : ℕ) → Cursor
 firstCursor s rows = record { at = length s - 4 - lengthIn s; start = 0; left = rows }
 
--- the block of some fields at a place, and the place behind it
+-- the block of some fields at a place, the place behind it, and their spelling
 abbrev pub stepOf : Cursor → Fields → Step
 stepOf c f =
     record {
       block = record { line = f .line; bits = f .bits; start = c .start };
       next = record { at = f .next; start = c .start + bytesFor (f .bits * min (c .left) 512); left = c .left - 512 };
+      spelling = f .spelling;
     }
 
 -- reading the block at a place
@@ -52,13 +56,18 @@ stepIn s c = readFields (upToLength s) (c .at) >>= (λ (f : Fields). value (step
 abbrev pub blocksFrom : (s : List ℕ) → Cursor → Outcome Table
 blocksFrom s c = readBlocks (blockCount (c .left)) (upToLength s) (c .at) (c .start) (c .left)
 
--- what was read, as the bytes of the area alone
-abbrev pub areaIn : Outcome Table → Outcome ℕ
-areaIn o = o >>= (λ (t : Table). value (t .area))
+-- what was read, as the bytes of the area and the spelling alone
+abbrev pub areaIn : Outcome Table → Outcome (ℕ × Spelling)
+areaIn o = o >>= (λ (t : Table). value (t .area, t .spelling))
 
 -- and as the table's numbers alone
 abbrev pub numbersIn : Outcome Table → Outcome (List ℕ)
 numbersIn o = o >>= (λ (t : Table). value (t .numbers))
+
+-- the column of a head, its blocks' area and spelling: the area has to end before the footer
+abbrev pub columnOver : Head → (footer : ℕ) → ℕ × Spelling → Outcome (Column × Spelling)
+columnOver h footer a =
+    demand (leb (h .next + a .0) footer) 10 [] >> value (columnOf h (h .next) (a .0) Blockwise, firstOf (h .spelling) (a .1))
 
 -- what reading a block found
 abbrev pub stepMeaning : StepRead → Outcome Step
@@ -66,8 +75,8 @@ stepMeaning (Read s) = value s
 stepMeaning (NotRead r) = numbered r
 
 -- what checking the blocks found
-abbrev pub areaMeaning : AreaRead → Outcome ℕ
-areaMeaning (Area n) = value n
+abbrev pub areaMeaning : AreaRead → Outcome (ℕ × Spelling)
+areaMeaning (Area n p) = value (n, p)
 areaMeaning (NoArea r) = numbered r
 
 -- a place whose area can be counted: a row takes at most eight bytes

@@ -17,7 +17,7 @@ ghost use Rattle.format.specs.Refusals.{openedMeaning, rowMeaning};
 ghost use Rattle.format.specs.Opening.{openBlockwise, columnIn};
 ghost use Rattle.format.specs.Reading.{blockAt, packedOf, scaled, valueIn, valueAt};
 ghost use Rattle.format.specs.Runs.{readRun, filledTo};
-ghost use Rattle.blockwise_linear.specs.Reader.{stepMeaning, areaMeaning, stepIn, blocksFrom, areaIn, numbersIn, firstCursor, Small, Good, Fillable, Readable, numbersStart};
+ghost use Rattle.blockwise_linear.specs.Reader.{stepMeaning, areaMeaning, stepIn, blocksFrom, areaIn, numbersIn, columnOver, firstCursor, Small, Good, Fillable, Readable, numbersStart};
 use format::Block;
 use format::BlockRow;
 use format::Codec;
@@ -28,6 +28,7 @@ use format::Line;
 use format::Opened;
 use format::Refusal;
 use format::RowRead;
+use format::Spelling;
 use line::FieldsRead;
 
 // A block of a table that has none.
@@ -48,10 +49,11 @@ pub struct Cursor {
     pub left: u32,
 }
 
-// A block, and the place behind it.
+// A block, the place behind it, and how its fields are spelled.
 pub struct Step {
     pub block: Block,
     pub next: Cursor,
+    pub spelling: Spelling,
 }
 
 // What reading a block finds.
@@ -60,9 +62,9 @@ pub enum StepRead {
     Refused(Refusal),
 }
 
-// What checking all blocks finds: how many bytes their area takes.
+// What checking all blocks finds: how many bytes their area takes, and how their fields are spelled.
 pub enum AreaRead {
-    Area(usize),
+    Area(usize, Spelling),
     Refused(Refusal),
 }
 
@@ -132,6 +134,7 @@ fn step_read(bytes: &[u8], c: Cursor) -> StepRead
         FieldsRead::Refused(r) => return StepRead::Refused(r),
     };
     let line = fields.line;
+    let spelling = fields.spelling;
     let rows = block_rows(c.left);
     StepRead::Step(Step {
         block: Block {
@@ -144,27 +147,51 @@ fn step_read(bytes: &[u8], c: Cursor) -> StepRead
             start: c.start + bitpacker::packed_len(rows as usize, fields.bits),
             left: c.left - rows,
         },
+        spelling,
     })
 }
 
-// Internal: asks that the area's bytes can be counted. The first pass: every block from a place on is read, and their area
-// added up.
+// Internal: asks that the area's bytes can be counted. The first pass: every block from a place on is read, their area added
+// up, and the first longer spelling kept.
 fn check(bytes: &[u8], place: Cursor) -> AreaRead
     requires { ⌜ Small place ⌝ }
     ensures { λ r. ⌜ areaMeaning r ≡ areaIn (blocksFrom (now (bytes .entry)) place) ⌝ }
 {
     let mut c = place;
+    let mut spelling = Spelling::Shortest;
     while 0 < c.left {
         let step = match step_read(bytes, c) {
             StepRead::Step(s) => s,
             StepRead::Refused(r) => return AreaRead::Refused(r),
         };
+        let read = step.spelling;
+        spelling = spelling.or_later(read);
         c = step.next;
     }
-    AreaRead::Area(c.start)
+    AreaRead::Area(c.start, spelling)
 }
 
-// The column of a head: its area comes behind it, and has to end before the footer.
+// The column of a head whose blocks were checked: its area has to end before the footer.
+fn loaded(head: Head, size: usize, spelling: Spelling, footer: usize) -> Opened
+    ensures { λ r. ⌜ openedMeaning r ≡ columnOver head footer (size, spelling) ⌝ }
+{
+    if !word::ends_within(head.next, size, footer) {
+        return Opened::Refused(Refusal::AreaShort);
+    }
+    let column = Column {
+        minimum: head.minimum,
+        gcd: head.gcd,
+        count: head.count,
+        rows: head.rows,
+        start: head.next,
+        size,
+        codec: Codec::Blockwise,
+    };
+    let first = head.spelling;
+    Opened::Column(column, first.or_later(spelling))
+}
+
+// The column of a head: its area comes behind it.
 pub fn load(bytes: &[u8], head: Head, room: usize) -> Opened
     ensures { λ r. ⌜ openedMeaning r ≡ columnIn (openBlockwise (now (bytes .entry)) head room) ⌝ }
 {
@@ -176,22 +203,10 @@ pub fn load(bytes: &[u8], head: Head, room: usize) -> Opened
         return Opened::Refused(Refusal::TableShort { blocks });
     }
     let footer = first(bytes, head.rows);
-    let size = match check(bytes, footer) {
-        AreaRead::Area(n) => n,
-        AreaRead::Refused(r) => return Opened::Refused(r),
-    };
-    if !word::ends_within(head.next, size, footer.at) {
-        return Opened::Refused(Refusal::AreaShort);
+    match check(bytes, footer) {
+        AreaRead::Area(size, spelling) => loaded(head, size, spelling, footer.at),
+        AreaRead::Refused(r) => Opened::Refused(r),
     }
-    Opened::Column(Column {
-        minimum: head.minimum,
-        gcd: head.gcd,
-        count: head.count,
-        rows: head.rows,
-        start: head.next,
-        size,
-        codec: Codec::Blockwise,
-    })
 }
 
 // Internal: asks for a block that was checked, and that the area's bytes can be counted. The block at a place.
@@ -205,6 +220,7 @@ fn next_block(bytes: &[u8], c: Cursor) -> Step
         StepRead::Refused(_) => Step {
             block: NO_BLOCK,
             next: c,
+            spelling: Spelling::Shortest,
         },
     }
 }
@@ -347,12 +363,5 @@ pub fn get_range(
     ensures { λ n. ⌜ filledTo n (first .0) (now (out .exit)) ≡ readRun (valueAt column block (now (bytes .entry))) (first .0) (length (now (out .entry))) ⌝ }
 {
     let start = numbers_start(column, block);
-    line_rows(
-        &bytes[start..],
-        block.line,
-        block.bits as u8,
-        column,
-        first.0,
-        out,
-    )
+    line_rows(&bytes[start..], block.line, block.bits as u8, column, first.0, out)
 }

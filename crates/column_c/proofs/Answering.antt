@@ -5,7 +5,7 @@
 --     opened-column, not-opened         an opening
 --     stated-numbers, not-stated        statistics
 -- Assumes nothing.
-use Prim.Native.Nat.{ℕ}
+use Prim.Native.Nat.{ℕ, _-_, _^_}
 use mathlib.Core.Path.{_≡_, refl, sym, ap, _∙_}
 use mathlib.Core.List.{List, [], _∷_}
 use lib.ListN.{getD}
@@ -14,13 +14,16 @@ use Rattle.format.specs.declared.Opened.{Opened}
 use Rattle.format.specs.declared.Opened.the-variants.{Column as OpenedColumn, Refused as NotOpened}
 use Rattle.format.specs.declared.ColumnStats.{ColumnStats}
 use Rattle.format.specs.declared.Refusal.{Refusal}
+use Rattle.format.specs.declared.Spelling.{Spelling}
 use Rattle.format.specs.declared.Stated.{Stated}
 use Rattle.format.specs.declared.Stated.the-variants.{Stats, Refused as NotStated}
 use Rattle.format.specs.Outcome.{Outcome, Outcome.value, Outcome.refusal, _>>=_, howMany, stored}
 use Rattle.format.specs.Opening.{Loaded, columnIn}
 use Rattle.format.specs.Refusals.{paper, numbered, statedMeaning, openedMeaning}
 use Rattle.u64_based.specs.Calls.{OpenedAs}
-use Rattle.column_c.specs.Numbers.{told, orZero, statsNumbers, columnNumbers, filled, Answers, Lists, Opens, States}
+use Rattle.column_c.specs.declared.Made.{Made}
+use Rattle.column_c.specs.declared.Made.the-variants.{Column as MadeColumn, Refused as NotMade}
+use Rattle.column_c.specs.Numbers.{madeMeaning, told, orZero, offsetOf, longerIn, statsNumbers, columnNumbers, filled, Answers, Lists, Opens, States}
 
 -- the two numbers of a refusal
 abbrev pub twoOf : Refusal → List ℕ
@@ -28,12 +31,12 @@ twoOf q = paper q .0 ∷ getD (paper q .1) 0 0 ∷ []
 
 -- ---- an answer that is taken apart
 
-module _ {B : Type 0} (k : Column → Outcome B) {o : Outcome Column} {a : Opened} (means : openedMeaning a ≡ o) where
-  pub through : {c : Column} → a ≡ OpenedColumn c → (o >>= k) ≡ k c
-  through e = ap (λ (x : Outcome Column). x >>= k) (sym means ∙ ap openedMeaning e)
+module _ {B : Type 0} (k : Column → Outcome B) {o : Outcome Column} {a : Made} (means : madeMeaning a ≡ o) where
+  pub through : {c : Column} → a ≡ MadeColumn c → (o >>= k) ≡ k c
+  through e = ap (λ (x : Outcome Column). x >>= k) (sym means ∙ ap madeMeaning e)
 
-  pub stopped : {q : Refusal} → a ≡ NotOpened q → (o >>= k) ≡ numbered q
-  stopped e = ap (λ (x : Outcome Column). x >>= k) (sym means ∙ ap openedMeaning e)
+  pub stopped : {q : Refusal} → a ≡ NotMade q → (o >>= k) ≡ numbered q
+  stopped e = ap (λ (x : Outcome Column). x >>= k) (sym means ∙ ap madeMeaning e)
 
 -- ---- results
 
@@ -64,21 +67,24 @@ told-column (value l) = refl
 told-column (refusal number also) = refl
 
 module _ {o : Outcome Loaded} {a : Opened} {column table table′ : List ℕ} (opens : OpenedAs o a table table′) where
-  pub opened-column : {c : Column} {ns : List ℕ} → a ≡ OpenedColumn c → ns ≡ columnNumbers c → Opens o (0 ∷ 0 ∷ []) column ns table table′
-  opened-column {c} {ns} e numbers =
-      let is : columnIn o ≡ value c = sym (opens .answer) ∙ ap openedMeaning e in
+  pub opened-column : {c : Column} {p : Spelling} {ns : List ℕ} {n : ℕ} → a ≡ OpenedColumn c p → ns ≡ columnNumbers c → n ≡ offsetOf p
+      → Opens o n (0 ∷ 0 ∷ []) column ns table table′
+  opened-column {c} {p} {ns} {n} e numbers offset =
+      let is : columnIn o ≡ value (c, p) = sym (opens .answer) ∙ ap openedMeaning e in
       record {
+        result-is = offset ∙ sym (ap longerIn is);
         refusal-is = sym (told-column o ∙ ap told is);
-        column-is = numbers ∙ sym (ap (λ (x : Outcome Column). filled (x >>= (λ (c : Column). value (columnNumbers c))) column) is);
+        column-is = numbers ∙ sym (ap (λ (x : Outcome (Column × Spelling)). filled (x >>= (λ (a : Column × Spelling). value (columnNumbers (a .0)))) column) is);
         table-is = opens .table;
       }
 
-  pub not-opened : {q : Refusal} {two : List ℕ} → a ≡ NotOpened q → two ≡ twoOf q → Opens o two column column table table′
+  pub not-opened : {q : Refusal} {two : List ℕ} → a ≡ NotOpened q → two ≡ twoOf q → Opens o (2 ^ 64 - 1) two column column table table′
   not-opened {q} e puts =
       let is : columnIn o ≡ numbered q = sym (opens .answer) ∙ ap openedMeaning e in
       record {
+        result-is = sym (ap longerIn is);
         refusal-is = puts ∙ sym (told-column o ∙ ap told is);
-        column-is = sym (ap (λ (x : Outcome Column). filled (x >>= (λ (c : Column). value (columnNumbers c))) column) is);
+        column-is = sym (ap (λ (x : Outcome (Column × Spelling)). filled (x >>= (λ (a : Column × Spelling). value (columnNumbers (a .0)))) column) is);
         table-is = opens .table;
       }
 

@@ -1,6 +1,6 @@
 -- Answers as plain numbers: what a C or a Rust caller hands over and finds.
 -- Assumes nothing.
-use Prim.Native.Nat.{ℕ, zero, suc, _^_}
+use Prim.Native.Nat.{ℕ, zero, suc, _-_, _^_}
 use mathlib.Core.Path.{_≡_}
 use mathlib.Core.List.{List, [], _∷_}
 use lib.Dec.{ltb}
@@ -9,12 +9,17 @@ use Rattle.format.specs.declared.Codec.{Codec}
 use Rattle.format.specs.declared.Codec.the-variants.{Bitpacked, Linear, Blockwise}
 use Rattle.format.specs.declared.Column.{Column}
 use Rattle.format.specs.declared.ColumnStats.{ColumnStats}
+use Rattle.format.specs.declared.Spelling.{Spelling}
+use Rattle.format.specs.declared.Spelling.the-variants.{Shortest, Longer}
 use Rattle.format.specs.Listing.{codeOf}
 use Rattle.format.specs.Lookup.{lookedUp, within}
 use Rattle.format.specs.Outcome.{Outcome, Outcome.value, Outcome.refusal, _>>=_, _>>_, demand, howMany, stored}
 use Rattle.format.specs.Opening.{Loaded, columnIn, tableIn}
 use Rattle.format.specs.Reading.{rowAt}
+use Rattle.format.specs.Refusals.{numbered}
 use Rattle.format.specs.Runs.{decoded}
+use Rattle.column_c.specs.declared.Made.{Made}
+use Rattle.column_c.specs.declared.Made.the-variants.{Column as MadeColumn, Refused as NotMade}
 
 -- ---- refusals
 
@@ -27,6 +32,16 @@ told (refusal number also) = number ∷ getD also 0 0 ∷ []
 abbrev pub orZero : Outcome ℕ → ℕ
 orZero (value n) = n
 orZero (refusal number also) = 0
+
+-- the offset of the first longer spelling, 2^64 - 1 where there is none
+abbrev pub offsetOf : Spelling → ℕ
+offsetOf Shortest = 2 ^ 64 - 1
+offsetOf (Longer offset) = offset
+
+-- the same of what was opened, 2^64 - 1 on refusal too
+abbrev pub longerIn : Outcome (Column × Spelling) → ℕ
+longerIn (value a) = offsetOf (a .1)
+longerIn (refusal number also) = 2 ^ 64 - 1
 
 -- ---- statistics and columns
 
@@ -72,6 +87,11 @@ columnFrom ns = do
   codec ← codecFrom (getD ns 0 0) (getD ns 7 0) (getD ns 8 0) (getD ns 9 0)
   value (columnWith ns codec)
 
+-- what ten numbers are
+abbrev pub madeMeaning : Made → Outcome Column
+madeMeaning (MadeColumn c) = value c
+madeMeaning (NotMade r) = numbered r
+
 -- reading a row of the column of ten numbers
 abbrev pub rowFrom : (ns t s : List ℕ) (r : ℕ) → Outcome ℕ
 rowFrom ns t s r = columnFrom ns >>= (λ (col : Column). rowAt col t s r)
@@ -102,10 +122,11 @@ pub record Lists (outcome : Outcome (List ℕ)) (result : ℕ) (refusal before a
   pub answers : Answers (howMany outcome) result refusal
   pub list : after ≡ stored outcome before
 
--- an opening: the numbers of its refusal and of its column, and the block table
-pub record Opens (outcome : Outcome Loaded) (refusal column column′ table table′ : List ℕ) : Type 0 where
+-- an opening: the offset of its longer spelling, the numbers of its refusal and of its column, and the block table
+pub record Opens (outcome : Outcome Loaded) (result : ℕ) (refusal column column′ table table′ : List ℕ) : Type 0 where
+  pub result-is : result ≡ longerIn (columnIn outcome)
   pub refusal-is : refusal ≡ told outcome
-  pub column-is : column′ ≡ filled (columnIn outcome >>= (λ (c : Column). value (columnNumbers c))) column
+  pub column-is : column′ ≡ filled (columnIn outcome >>= (λ (a : Column × Spelling). value (columnNumbers (a .0)))) column
   pub table-is : table′ ≡ stored (tableIn outcome) table
 
 -- statistics: the numbers of their refusal, and their own

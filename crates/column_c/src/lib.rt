@@ -1,15 +1,15 @@
 // The library for Rust and C: the entry points over plain numbers. A refusal is two numbers, an opened column ten. Every call puts its refusal's
-// numbers, both 0 where nothing is refused; a refusal changes no other lent entry.
+// numbers, both 0 where nothing is refused; a refusal changes no other lent entry. A longer spelling is its offset, 2^64 - 1 where there is none.
 ghost use mathlib.Core.Path.{_≡_};
 ghost use mathlib.Core.List.{[], _∷_};
 ghost use Prim.Native.Nat.{_/_, _^_, _<_};
 ghost use lib.ListN.{length, getD};
 ghost use Rattle.format.specs.Listing.{codeOf};
 ghost use Rattle.format.specs.Opening.{opened};
-ghost use Rattle.format.specs.Refusals.{paper, openedMeaning};
+ghost use Rattle.format.specs.Refusals.{paper};
 ghost use Rattle.format.specs.Stats.{stated};
 ghost use Rattle.format.specs.Writing.{written};
-ghost use Rattle.column_c.specs.Numbers.{ownNumbers, columnNumbers, columnWith, columnFrom, rowFrom, foundFrom, runFrom, Answers, Lists, Opens, States};
+ghost use Rattle.column_c.specs.Numbers.{madeMeaning, offsetOf, ownNumbers, columnNumbers, columnWith, columnFrom, rowFrom, foundFrom, runFrom, Answers, Lists, Opens, States};
 use format::Codec;
 use format::Column;
 use format::ColumnRow;
@@ -19,6 +19,7 @@ use format::Opened;
 use format::Refusal;
 use format::RowRead;
 use format::RunRead;
+use format::Spelling;
 use format::Stated;
 use format::Written;
 
@@ -54,6 +55,16 @@ fn told(refusal: Refusal) -> [u64; 2]
     ensures { λ r. ⌜ r ≡ paper refusal .0 ∷ getD (paper refusal .1) 0 0 ∷ [] ⌝ }
 {
     [word::wide(refusal.number()), also(refusal)]
+}
+
+// The offset of the first longer spelling.
+fn longer(spelling: Spelling) -> u64
+    ensures { λ r. ⌜ r ≡ offsetOf spelling ⌝ }
+{
+    match spelling {
+        Spelling::Shortest => u64::MAX,
+        Spelling::Longer { offset } => offset as u64,
+    }
 }
 
 // A codec's number and its own three.
@@ -103,28 +114,34 @@ fn column_with(numbers: &[u64; 10], codec: Codec) -> Column
     }
 }
 
+// A column that a caller hands over as numbers.
+pub enum Made {
+    Column(Column),
+    Refused(Refusal),
+}
+
 // The column of ten numbers, if they are one.
-fn column_from(numbers: &[u64; 10]) -> Opened
-    ensures { λ r. ⌜ openedMeaning r ≡ columnFrom (now (numbers .entry)) ⌝ }
+fn column_from(numbers: &[u64; 10]) -> Made
+    ensures { λ r. ⌜ madeMeaning r ≡ columnFrom (now (numbers .entry)) ⌝ }
 {
     if 0xffff_ffff < numbers[4] {
-        return Opened::Refused(Refusal::Unfit);
+        return Made::Refused(Refusal::Unfit);
     }
     match numbers[0] {
-        0 => Opened::Column(column_with(numbers, Codec::Bitpacked)),
+        0 => Made::Column(column_with(numbers, Codec::Bitpacked)),
         1 => {
             let bits = numbers[9];
             if 255 < bits {
-                return Opened::Refused(Refusal::Unfit);
+                return Made::Refused(Refusal::Unfit);
             }
             let line = Line {
                 slope: numbers[7],
                 intercept: numbers[8],
             };
-            Opened::Column(column_with(numbers, Codec::Linear(line, bits as u8)))
+            Made::Column(column_with(numbers, Codec::Linear(line, bits as u8)))
         }
-        2 => Opened::Column(column_with(numbers, Codec::Blockwise)),
-        _ => Opened::Refused(Refusal::Unfit),
+        2 => Made::Column(column_with(numbers, Codec::Blockwise)),
+        _ => Made::Refused(Refusal::Unfit),
     }
 }
 
@@ -170,23 +187,26 @@ pub extern "C" fn hulemartob_serialize(
     }
 }
 
-// Opens a column: its ten numbers, and its blocks in the table.
+// Opens a column: its ten numbers, and its blocks in the table. Returns the offset of the first longer spelling, 2^64 - 1 where
+// there is none and on refusal.
 #[no_mangle]
 pub extern "C" fn hulemartob_open(
     bytes: &[u8],
     table: &mut [u64],
     column: &mut [u64; 10],
     refusal: &mut [u64; 2],
-)
-    ensures { λ _. ⌜ Opens (opened (now (bytes .entry)) (length (now (table .entry)) / 4)) (now (refusal .exit)) (now (column .entry)) (now (column .exit)) (now (table .entry)) (now (table .exit)) ⌝ }
+) -> u64
+    ensures { λ r. ⌜ Opens (opened (now (bytes .entry)) (length (now (table .entry)) / 4)) r (now (refusal .exit)) (now (column .entry)) (now (column .exit)) (now (table .entry)) (now (table .exit)) ⌝ }
 {
     match u64_based::open(bytes, table) {
-        Opened::Column(opened) => {
+        Opened::Column(opened, spelling) => {
             *column = column_numbers(opened);
             *refusal = ACCEPTED;
+            longer(spelling)
         }
         Opened::Refused(q) => {
             *refusal = told(q);
+            u64::MAX
         }
     }
 }
@@ -203,8 +223,8 @@ pub extern "C" fn hulemartob_row(
     ensures { λ r. ⌜ Answers (rowFrom (now (column .entry)) (now (table .entry)) (now (bytes .entry)) row) r (now (refusal .exit)) ⌝ }
 {
     let opened = match column_from(column) {
-        Opened::Column(opened) => opened,
-        Opened::Refused(q) => {
+        Made::Column(opened) => opened,
+        Made::Refused(q) => {
             *refusal = told(q);
             return 0;
         }
@@ -237,8 +257,8 @@ pub extern "C" fn hulemartob_lookup(
     ensures { λ r. ⌜ Lists (foundFrom (now (column .entry)) (now (table .entry)) (now (bytes .entry)) low high first end (length (now (found .entry)))) r (now (refusal .exit)) (now (found .entry)) (now (found .exit)) ⌝ }
 {
     let opened = match column_from(column) {
-        Opened::Column(opened) => opened,
-        Opened::Refused(q) => {
+        Made::Column(opened) => opened,
+        Made::Refused(q) => {
             *refusal = told(q);
             return 0;
         }
@@ -268,8 +288,8 @@ pub extern "C" fn hulemartob_run(
     ensures { λ r. ⌜ Lists (runFrom (now (column .entry)) (now (table .entry)) (now (bytes .entry)) first (length (now (out .entry)))) r (now (refusal .exit)) (now (out .entry)) (now (out .exit)) ⌝ }
 {
     let opened = match column_from(column) {
-        Opened::Column(opened) => opened,
-        Opened::Refused(q) => {
+        Made::Column(opened) => opened,
+        Made::Refused(q) => {
             *refusal = told(q);
             return 0;
         }

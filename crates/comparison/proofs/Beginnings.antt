@@ -3,7 +3,7 @@
 --     begun-both                   with both columns
 -- Assumes nothing.
 use Prim.Native.Nat.{ℕ}
-use mathlib.Core.Path.{_≡_, refl, ap, _∙_}
+use mathlib.Core.Path.{_≡_, refl, sym, ap, _∙_}
 use mathlib.Core.List.{List}
 use native.Mathlib.Nat.{zero-add}
 use native.Mathlib.Omega.{arith}
@@ -13,10 +13,12 @@ use Rattle.format.specs.declared.Column.{Column}
 use Rattle.format.specs.declared.Opened.{Opened}
 use Rattle.format.specs.declared.Opened.the-variants.{Column as OpenedColumn, Refused}
 use Rattle.format.specs.declared.Refusal.{Refusal}
+use Rattle.format.specs.declared.Spelling.{Spelling}
 use Rattle.format.specs.Listing.{ascii, namedLine}
 use Rattle.format.specs.Opening.{Loaded}
 use Rattle.format.specs.Outcome.{Outcome, Outcome.value, Outcome.refusal, Wrote}
 use Rattle.format.specs.Refusals.{openedMeaning}
+use Rattle.format.proofs.Outcomes.{value-same}
 use Rattle.u64_based.specs.Calls.{OpenedAs}
 use Rattle.listing.specs.Beginning.{refusedBy}
 use Rattle.listing.proofs.Texts.{counts}
@@ -36,10 +38,10 @@ module _ {o p : Outcome Loaded} {r q : Opened} {ltable ltable′ rtable rtable�
           let long : n ≡ length (namedLine (ascii "left refused ") number) = wrote .ends ∙ zero-add _ in
           record { answer = cc; left-table = f .table; right-table = m .table; line = wrote .list ∙ rw same; counts = shown }
 
-  pub begun-right : {c : Column} {x : Refusal} {number n : ℕ} {new : List ℕ} → r ≡ OpenedColumn c → q ≡ Refused x → number ≡ refusedBy (openedMeaning q)
+  pub begun-right : {c : Column} {a : Spelling} {x : Refusal} {number n : ℕ} {new : List ℕ} → r ≡ OpenedColumn c a → q ≡ Refused x → number ≡ refusedBy (openedMeaning q)
       → Wrote old 0 (namedLine (ascii "right refused ") number) new n → Counts n new
       → BegunAs o p (BegunRefused n) ltable ltable′ rtable rtable′ old new
-  begun-right {c} {x} {number} {n} {new} was is by wrote shown = go o p l m
+  begun-right {c} {a} {x} {number} {n} {new} was is by wrote shown = go o p l m
     where
       go : (o p : Outcome Loaded) → OpenedAs o r ltable ltable′ → OpenedAs p q rtable rtable′ → BegunAs o p (BegunRefused n) ltable ltable′ rtable rtable′ old new
       go (refusal number′ also) p f g = absurd (let z : _≡_ {A = ℕ} 0 1 = cc in omega arith)
@@ -49,13 +51,13 @@ module _ {o p : Outcome Loaded} {r q : Opened} {ltable ltable′ rtable rtable�
           let long : n ≡ length (namedLine (ascii "right refused ") number) = wrote .ends ∙ zero-add _ in
           record { answer = cc; left-table = f .table; right-table = g .table; line = wrote .list ∙ rw same; counts = shown }
 
-  pub begun-both : {c d : Column} → r ≡ OpenedColumn c → q ≡ OpenedColumn d → BegunAs o p (Columns c d) ltable ltable′ rtable rtable′ old old
-  begun-both {c} {d} was is = go o p l m
+  pub begun-both : {c d : Column} {a b : Spelling} → r ≡ OpenedColumn c a → q ≡ OpenedColumn d b → BegunAs o p (Columns c d) ltable ltable′ rtable rtable′ old old
+  begun-both {c} {d} {a} {b} was is = go o p l m
     where
       go : (o p : Outcome Loaded) → OpenedAs o r ltable ltable′ → OpenedAs p q rtable rtable′ → BegunAs o p (Columns c d) ltable ltable′ rtable rtable′ old old
       go (refusal number′ also) p f g = absurd (let z : _≡_ {A = ℕ} 0 1 = cc in omega arith)
-      go (value a) (refusal number′ also) f g = absurd (let z : _≡_ {A = ℕ} 0 1 = cc in omega arith)
-      go (value a) (value b) f g =
-          let same : c ≡ a .column = cc in
-          let also : d ≡ b .column = cc in
+      go (value e) (refusal number′ also) f g = absurd (let z : _≡_ {A = ℕ} 0 1 = cc in omega arith)
+      go (value u) (value w) f g =
+          let same : c ≡ u .column = ap (λ (a : Column × Spelling). a .0) (value-same (sym (ap openedMeaning was) ∙ f .answer)) in
+          let also : d ≡ w .column = ap (λ (a : Column × Spelling). a .0) (value-same (sym (ap openedMeaning is) ∙ g .answer)) in
           record { answer = cc; left-table = f .table; right-table = g .table; line = refl; counts = counts 0 old (omega arith) }

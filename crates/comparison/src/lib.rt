@@ -49,11 +49,11 @@ pub fn begin(
 {
     let opened = listing::open(left, ltable);
     let other = listing::open(right, rtable);
-    let Opened::Column(column) = opened else {
+    let Opened::Column(column, _) = opened else {
         let number = refusal_number(opened) as u64;
         return Begun::Refused(named_line(b"left refused ", number, line));
     };
-    let Opened::Column(against) = other else {
+    let Opened::Column(against, _) = other else {
         let number = refusal_number(other) as u64;
         return Begun::Refused(named_line(b"right refused ", number, line));
     };

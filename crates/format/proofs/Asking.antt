@@ -5,8 +5,11 @@ use mathlib.Core.List.{List, [], _∷_, _++_, map}
 use Rattle.format.specs.declared.Codec.{Codec}
 use Rattle.format.specs.declared.Codec.the-variants.{Bitpacked, Linear, Blockwise}
 use Rattle.format.specs.declared.Column.{Column}
+use Rattle.format.specs.declared.Field.{Field}
+use Rattle.format.specs.declared.Spelling.{Spelling}
+use Rattle.format.specs.declared.Spelling.the-variants.{Shortest, Longer}
 use Rattle.format.specs.Outcome.{Outcome, _>>=_, Outcome.value}
-use Rattle.format.specs.Varint.{spell}
+use Rattle.format.specs.Varint.{spell, readVarint}
 use Rattle.format.specs.Packing.{width}
 use Rattle.format.specs.Stats.{greatest}
 use Rattle.format.specs.Line.{through, lineAt, trained, residuals}
@@ -18,18 +21,18 @@ use Rattle.format.specs.Lookup.{lookedUp, within}
 use Rattle.format.specs.Listing.{listing, openedHere}
 use Rattle.format.specs.Comparing.{comparison}
 
--- a number's spelling; its width; the line of four values; codecs, values and room; bytes and blocks; bytes, blocks and a row; a made-up column, table,
--- bytes and a row; bytes, low, high, first, end and room; codecs, values and a row of what was written; bytes in a program; the listing of bytes; the
--- comparison of two
--- a number's spelling; its width; what a gcd saves over so many rows; the line of four values; codecs, values and room; bytes and blocks; bytes, blocks and a row; a made-up column, table,
--- bytes and a row; bytes, low, high, first, end and room; codecs, values and a row of what was written; bytes in a program; the listing of bytes
+-- a number's spelling; bytes and the offset of a field; its width; what a gcd saves over so many rows; the line of four values; codecs, values and room; bytes and blocks; the same, for the spelling;
+-- bytes, blocks and a row; a made-up column, table, bytes and a row; bytes, low, high, first, end and room; codecs, values and a row of what was written; bytes in a program; the listing of bytes;
+-- the comparison of two
 pub data Asked : Type 0 where
   spelling : ℕ → Asked
+  field : List ℕ → ℕ → Asked
   widthOf : ℕ → Asked
   savingOf : ℕ → ℕ → Asked
   training : List ℕ → Asked
   writing : List ℕ → List ℕ → ℕ → Asked
   opening : List ℕ → ℕ → Asked
+  spelled : List ℕ → ℕ → Asked
   reading : List ℕ → ℕ → ℕ → Asked
   made : Column → List ℕ → List ℕ → ℕ → Asked
   looking : List ℕ → ℕ → ℕ → ℕ → ℕ → ℕ → Asked
@@ -55,6 +58,11 @@ numbersOf o =
     o .column .minimum ∷ o .column .gcd ∷ o .column .count ∷ o .column .rows ∷ o .column .start ∷ o .column .size
     ∷ (codecNumbers (o .column .codec) ++ o .table)
 
+-- a spelling as a list: the offset of the first longer one, or nothing
+abbrev pub longerAt : Spelling → List ℕ
+longerAt Shortest = []
+longerAt (Longer offset) = offset ∷ []
+
 -- one number as a list
 abbrev pub alone : Outcome ℕ → Outcome (List ℕ)
 alone o = o >>= (λ (v : ℕ). value (v ∷ []))
@@ -62,11 +70,13 @@ alone o = o >>= (λ (v : ℕ). value (v ∷ []))
 -- what the definitions answer
 unfoldable pub answer : Asked → Outcome (List ℕ)
 answer (spelling n) = value (spell n)
+answer (field s at) = readVarint s at >>= (λ (f : Field). value (f .value ∷ f .next ∷ f .used ∷ longerAt (f .spelling)))
 answer (widthOf n) = value (width n ∷ [])
 answer (savingOf gcd rows) = value (saving gcd rows ∷ [])
 answer (training vs) = value (lineOf vs)
 answer (writing cs vs room) = written vs cs room
 answer (opening s room) = opened s room >>= (λ (o : Loaded). value (numbersOf o))
+answer (spelled s room) = opened s room >>= (λ (o : Loaded). value (longerAt (o .spelling)))
 answer (reading s room r) = opened s room >>= (λ (o : Loaded). alone (rowAt (o .column) (o .table) s r))
 answer (made col t s r) = alone (rowAt col t s r)
 answer (looking s low high first end room) = opened s 1 >>= (λ (o : Loaded). lookedUp (rowAt (o .column) (o .table) s) (o .column .rows) (within low high) first end room)

@@ -75,6 +75,7 @@ bitpacked-round vs each few applies = record {
   loaded = bitpackedOf (writtenHead vs);
   opens = λ room enough. rw (column-is vs) (column-opens vs each few room);
   count = refl;
+  shortest = refl;
   values = λ r h. rw (column-is vs) (value-back vs each few r h);
 }
 

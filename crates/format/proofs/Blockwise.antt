@@ -11,6 +11,7 @@ use borrow.Author.Tests.{le-leb}
 use Rattle.format.specs.declared.Codec.the-variants.{Blockwise}
 use Rattle.format.specs.declared.Head.{Head}
 use Rattle.format.specs.declared.Line.{Line}
+use Rattle.format.specs.declared.Spelling.the-variants.{Shortest}
 use Rattle.format.specs.Outcome.{Outcome.value}
 use Rattle.format.specs.Word.{modAdd, AllBelow}
 use Rattle.format.specs.Packing.{unpack, bytesNum, numBytes}
@@ -83,7 +84,7 @@ module _ (vs : List ℕ) where
   column-is = refl
 
   abbrev pub opens : Loaded
-  opens = record { column = columnOf (writtenHead vs) (1 + length (headBytes vs)) (length area) Blockwise; table = numbersFrom 0 parts }
+  opens = record { column = columnOf (writtenHead vs) (1 + length (headBytes vs)) (length area) Blockwise; table = numbersFrom 0 parts; spelling = Shortest }
 
   blocks-many : length parts ≡ blockCount (length vs)
   unfolding blocks
@@ -95,7 +96,7 @@ module _ (vs : List ℕ) where
   foot-short few = omega (arith, joined-most blockEntry 21 entry-most parts, blocks-many)
 
   -- the footer is read as the table, whatever stands before it
-  foot-read : (front : List ℕ) → readBlocks (blockCount (length vs)) (front ++ foot) (length front) 0 (length vs) ≡ value (record { numbers = numbersFrom 0 parts; area = length area })
+  foot-read : (front : List ℕ) → readBlocks (blockCount (length vs)) (front ++ foot) (length front) 0 (length vs) ≡ value (record { numbers = numbersFrom 0 parts; area = length area; spelling = Shortest })
   unfolding blocks
   foot-read front =
       ap (λ (n : ℕ). readBlocks (blockCount n) (front ++ foot) (length front) 0 n) (sym (multiples-length vs))
@@ -159,5 +160,6 @@ blockwise-round vs each few applies = record {
   loaded = opens vs;
   opens = λ room enough. blockwise-opens vs room each few enough;
   count = refl;
+  shortest = refl;
   values = λ r h. rw (column-is vs) (value-back vs each few r h);
 }

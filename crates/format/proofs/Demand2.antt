@@ -1,17 +1,23 @@
 -- Demand 2: what was written opens and gives back what was written.
---     demand2       the demand
---     found-rows    what a lookup in the column finds
+--     demand2             the demand
+--     written-shortest    what was written opens with the shortest spellings
+--     found-rows          what a lookup in the column finds
 -- Assumes nothing.
-use mathlib.Core.Path.{_≡_, _∙_}
+use mathlib.Core.Path.{_≡_, sym, ap, _∙_}
 use mathlib.Core.List.{List, [], _∷_}
-use Prim.Native.Nat.{ℕ, zero, suc, _-_, _≤_, min}
+use Prim.Native.Nat.{ℕ, zero, suc, _-_, _*_, _/_, _^_, _≤_, min}
 use native.Mathlib.Omega.{arith}
 use lib.Dec.{leb}
 use lib.ListN.{length}
+use Rattle.format.specs.declared.Spelling.the-variants.{Shortest}
 use Rattle.format.specs.Outcome.{Outcome.value, _>>_, demand}
-use Rattle.format.specs.Opening.{Loaded}
+use Rattle.format.specs.Word.{AllBelow}
+use Rattle.format.specs.Bodies.{blockCount}
+use Rattle.format.specs.Writing.{written}
+use Rattle.format.specs.Opening.{Loaded, opened}
 use Rattle.format.specs.Lookup.{lookedUp, within}
 use Rattle.format.specs.Demands.{Returns, Accepts, Demand2, GivesBack, answered}
+use Rattle.format.proofs.Outcomes.{value-same}
 use Rattle.format.proofs.Lookups.{foundIn, looked-up}
 use Rattle.format.proofs.RoundTrip.{RoundTrips, gives-back}
 use Rattle.format.proofs.Writes.{written-as, never-needless}
@@ -33,6 +39,15 @@ returns vs cs bytes table room each e enough =
     let back = any-codec (w .codec) (w .known) vs each (w .few) (w .applies) in
     let g = gives-back back table enough in
     rw (w .is) (back .loaded, g .0, g .1)
+
+-- its numbers are spelled as short as can be
+pub written-shortest : (vs cs bytes table : List ℕ) (room : ℕ) → AllBelow (2 ^ 64) vs → written vs cs room ≡ value bytes → 4 * blockCount (length vs) ≤ length table
+    → (o : Loaded) → opened bytes (length table / 4) ≡ value o → o .spelling ≡ Shortest
+written-shortest vs cs bytes table room each e enough o opens =
+    let w = written-as vs cs bytes room e in
+    let back = any-codec (w .codec) (w .known) vs each (w .few) (w .applies) in
+    let there : opened bytes (length table / 4) ≡ value (back .loaded) = ap (λ (s : List ℕ). opened s (length table / 4)) (w .is) ∙ gives-back back table enough .0 in
+    ap (λ (l : Loaded). l .spelling) (value-same (sym opens ∙ there)) ∙ back .shortest
 
 -- whatever can be written is written wherever there is room
 accepts : Accepts

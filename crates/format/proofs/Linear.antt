@@ -14,6 +14,7 @@ use lib.ListN.{length, take, drop, getD, length-append, length-map}
 use borrow.Author.Tests.{le-leb, le-ltb}
 use Rattle.format.specs.declared.Codec.the-variants.{Linear}
 use Rattle.format.specs.declared.Fields.{Fields}
+use Rattle.format.specs.declared.Spelling.the-variants.{Shortest}
 use Rattle.format.specs.Outcome.{Outcome.value}
 use Rattle.format.specs.Word.{modAdd, modSub, bytesFor, AllBelow}
 use Rattle.format.specs.Packing.{legal, packed}
@@ -116,7 +117,7 @@ module _ (vs : List ℕ) where
   column-is = refl
 
   abbrev fields : Fields
-  fields = record { line = linearLine vs; bits = bits; next = start }
+  fields = record { line = linearLine vs; bits = bits; next = start; spelling = Shortest }
 
   behind-line : drop start column ≡ area
   behind-line =
@@ -155,6 +156,7 @@ linear-round vs each few applies = record {
   loaded = linearOf (writtenHead vs) (fields vs);
   opens = λ room enough. rw (column-is vs) (column-opens vs each few room);
   count = refl;
+  shortest = refl;
   values = λ r h. rw (column-is vs) (value-back vs each few r h);
 }
 

@@ -8,6 +8,7 @@ use mathlib.Core.List.{List, _∷_, _++_}
 use Prim.Native.Nat.{ℕ, _*_, _/_, _^_, _≤_, _<_}
 use native.Mathlib.Omega.{arith}
 use lib.ListN.{length}
+use Rattle.format.specs.declared.Spelling.the-variants.{Shortest}
 use Rattle.format.specs.Outcome.{Outcome.value}
 use Rattle.format.specs.Word.{AllBelow}
 use Rattle.format.specs.Bodies.{columnBy, blockCount}
@@ -21,11 +22,12 @@ use Rattle.format.proofs.Laid.{opened-laid}
 use Rattle.format.proofs.Rows.{answer-is}
 use Rattle.format.proofs.Lookups.{looked-agree}
 
--- what a codec writes opens wherever the table has room, and each row's packed number makes its value
+-- what a codec writes opens wherever the table has room, its numbers are spelled as short as can be, and each row's packed number makes its value
 pub record Restores (codec : ℕ) (vs : List ℕ) : Type 0 where
   pub loaded : Loaded
   pub opens : (room : ℕ) → blockCount (length vs) ≤ room → opened (columnBy codec vs) room ≡ value loaded
   pub count : loaded .column .rows ≡ length vs
+  pub shortest : loaded .spelling ≡ Shortest
   pub values : (r : ℕ) → r < length vs
       → valueIn (loaded .column .codec) (loaded .column) (blockAt (loaded .table) (r / 512)) r (packedOf (loaded .column) (blockAt (loaded .table) (r / 512)) (columnBy codec vs) r) ≡ readsAs vs r
 

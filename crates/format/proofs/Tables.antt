@@ -12,6 +12,7 @@ use mathlib.Core.List.{List, [], _∷_}
 use native.Mathlib.Omega.{arith}
 use lib.ListN.{length, getD}
 use Rattle.format.specs.declared.Fields.{Fields}
+use Rattle.format.specs.declared.Spelling.the-variants.{Shortest}
 use Rattle.format.specs.Outcome.{Outcome.value}
 use Rattle.format.specs.Word.{bytesFor}
 use Rattle.format.specs.Packing.{legal}
@@ -80,7 +81,7 @@ pub record BlocksRead (k : ℕ) (s : List ℕ) (at start rows : ℕ) (t : Table)
   pub elsewhere : (u : List ℕ) → length s ≡ length u → Agree s u at (length s) → readBlocks k u at start rows ≡ value t
 
 -- no blocks
-blocks-none : (s : List ℕ) (at start rows : ℕ) → BlocksRead 0 s at start rows (record { numbers = []; area = start })
+blocks-none : (s : List ℕ) (at start rows : ℕ) → BlocksRead 0 s at start rows (record { numbers = []; area = start; spelling = Shortest })
 unfolding readBlocks
 blocks-none s at start rows = record {
   long = refl;

@@ -1,6 +1,7 @@
 -- Demands 2 and 3 of columns of signed numbers, dates, bools and floats.
 --     kind-back          a value that was stored reads as itself
 --     returns-as         demand 2: what was written of a list of any kind gives back the list
+--     shortest-as        .. and opens with the shortest spellings
 --     tell-signed, tell-float, tell-flag, tell-typed
 --                        demand 3: what the answers read as differs where the stored numbers do
 -- Assumes nothing.
@@ -8,16 +9,19 @@ use mathlib.Core.Path.{_≡_, refl, sym, ap, _∙_}
 use mathlib.Core.Bool.{Bool, true, false, true≢false, false≢true}
 use mathlib.Core.Logic.{_⊎_, inl, inr}
 use mathlib.Core.List.{List, [], _∷_}
-use Prim.Native.Nat.{ℕ, zero, suc, _-_, _^_, _≤_, _<_, min}
+use Prim.Native.Nat.{ℕ, zero, suc, _-_, _*_, _/_, _^_, _≤_, _<_, min}
 use native.Mathlib.Omega.{arith}
 use lib.Dec.{ltb, leb}
 use lib.ListN.{length, getD}
 use borrow.Author.Tests.{ltb-true, ltb-false}
 use Rattle.format.specs.declared.Kind.{Kind}
 use Rattle.format.specs.declared.Kind.the-variants.{U64, I64, Date, Bool as Flag, F64}
+use Rattle.format.specs.declared.Spelling.the-variants.{Shortest}
 use Rattle.format.specs.Outcome.{Outcome, Outcome.value, Outcome.refusal, _>>_, demand}
 use Rattle.format.specs.Word.{AllBelow}
-use Rattle.format.specs.Opening.{Loaded}
+use Rattle.format.specs.Bodies.{blockCount}
+use Rattle.format.specs.Writing.{written}
+use Rattle.format.specs.Opening.{Loaded, opened}
 use Rattle.format.specs.Lookup.{rowsPassing, lookedUp}
 use Rattle.format.specs.Typed.{storedIn, storedAs, readAs, readingOf, meant, lies, between, signedBits, storedSigned, signedOf, flagOf, storedFloat, floatOf}
 use Rattle.format.specs.Demands.{readsAs, filledBy, answered, GivesBack, GivesBackAs, ReturnsAs, Differ, DifferAs, BothTrue, TellTyped}
@@ -26,7 +30,7 @@ use Rattle.format.proofs.Lookups.{foundIn, looked-agree, looked-up}
 use Rattle.format.proofs.Mappings.{signed-back, stored-back, bits-in, flag-back, float-back, bits-back}
 use Rattle.format.proofs.StoredLists.{stored-length, stored-at, stored-words}
 use Rattle.format.proofs.TypedLookups.{row-words}
-use Rattle.format.proofs.Demand2.{demand2}
+use Rattle.format.proofs.Demand2.{demand2, written-shortest}
 use Rattle.format.proofs.Demand3.{demand3}
 
 -- ---- demand 2
@@ -77,6 +81,11 @@ pub returns-as : (kind : Kind) → ReturnsAs kind
 returns-as kind xs cs bytes table room each e enough =
     let g = demand2 .0 (storedAs kind xs) cs bytes table room (stored-words kind xs each) e (rw (stored-length kind xs) enough) in
     (g .0, g .1, gives-back-as kind xs each bytes table (g .0) (g .2))
+
+pub shortest-as : (kind : Kind) (xs cs bytes table : List ℕ) (room : ℕ) → AllBelow (2 ^ 64) xs → written (storedAs kind xs) cs room ≡ value bytes
+    → 4 * blockCount (length xs) ≤ length table → (o : Loaded) → opened bytes (length table / 4) ≡ value o → o .spelling ≡ Shortest
+shortest-as kind xs cs bytes table room each e enough =
+    written-shortest (storedAs kind xs) cs bytes table room (stored-words kind xs each) e (rw (stored-length kind xs) enough)
 
 -- ---- demand 3
 

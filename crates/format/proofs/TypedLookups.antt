@@ -7,7 +7,7 @@
 --     signed-covers, flag-covers, float-covers        and the ranges that callers hand on cover them
 -- Assumes nothing.
 use mathlib.Core.Path.{_≡_, refl, sym, ap, _∙_, subst}
-use mathlib.Core.Bool.{Bool, true, false, not, _&&_, _||_, true≢false, false≢true}
+use mathlib.Core.Bool.{Bool, true, false, not, _&&_, _||_, true≢false, false≢true, and-eq-true-iff}
 use mathlib.Core.Logic.{_⊎_, inl, inr}
 use mathlib.Core.List.{List, [], _∷_}
 use Prim.Native.Nat.{ℕ, zero, suc, _+_, _-_, _*_, _/_, _^_, _≤_, _<_, min, zero-le, suc-le-suc}
@@ -25,11 +25,12 @@ use Rattle.format.specs.declared.Block.{Block}
 use Rattle.format.specs.declared.Column.{Column}
 use Rattle.format.specs.declared.Range.{Range}
 use Rattle.format.specs.Outcome.{Outcome, Outcome.value, Outcome.refusal}
-use Rattle.format.specs.Reading.{fits, packedOf, blockAt, scaled, valueIn, rowIn, rowAt}
+use Rattle.format.specs.Reading.{columnFits, rowFits, fits, packedOf, blockAt, scaled, valueIn, rowIn, rowAt}
 use Rattle.format.specs.Lookup.{passes, rowsPassing, lookedUp, within}
 use Rattle.format.specs.Typed.{Reading, Keeps, Covers, between, signeds, flags, floats, signedRange, flagRange, floatRange, storedSigned, signedOf, storedFlag, flagOf, storedFloat}
 use Rattle.format.proofs.Lists.{below-or}
 use Rattle.format.proofs.Outcomes.{by-demand, value-same}
+use Rattle.format.proofs.Runs.{scaled-below}
 use Rattle.format.proofs.Lookups.{within-both}
 use Rattle.format.proofs.Mappings.{signed-order, read-order, stored-back, signed-in, bits-back, flag-rises}
 
@@ -39,23 +40,19 @@ use Rattle.format.proofs.Mappings.{signed-order, read-order, stored-bac
 abbrev pub Words : (read : ℕ → Outcome ℕ) → Type 0
 Words read = (r u : ℕ) → read r ≡ value u → u < 2 ^ 64
 
--- the second of six tests that all held
-second-held : (a b c d e f : Bool) → (a && b && c && d && e && f) ≡ true → b ≡ true
-second-held true true c d e f h = refl
-second-held true false c d e f h = h
-second-held false b c d e f h = absurd (false≢true h)
-
 -- the head's bounds are tested
 bounds-small : (col : Column) (blocks : ℕ) (b : Block) (s : List ℕ) (r : ℕ) → fits col blocks b s r ≡ true → col .minimum + col .count * col .gcd < 2 ^ 64
-unfolding fits
-bounds-small col blocks b s r e = ltb-true _ _ (second-held (ltb 0 (col .gcd)) (ltb (col .minimum + col .count * col .gcd) (2 ^ 64)) _ _ _ _ e)
+unfolding fits columnFits
+bounds-small col blocks b s r e =
+    let step = ltb 0 (col .gcd) in
+    let bounds = ltb (col .minimum + col .count * col .gcd) (2 ^ 64) in
+    let column = and-eq-true-iff (columnFits col s) (rowFits col blocks b r) .0 e .0 in
+    let two = and-eq-true-iff (step && bounds) (leb (col .start + col .size) (length s)) .0 column .0 in
+    ltb-true _ _ (and-eq-true-iff step bounds .0 two .1)
 
 scaled-words : (col : Column) (r n u : ℕ) → col .minimum + col .count * col .gcd < 2 ^ 64 → scaled col r n ≡ value u → u < 2 ^ 64
 scaled-words col r n u h e = by-demand (leb n (col .count)) 14 (r ∷ []) (value (col .minimum + col .gcd * n)) e
-    (λ test is. subst (λ (x : ℕ). x < 2 ^ 64) (value-same is) (small (col .minimum) (col .gcd) (col .count) n h (leb-true _ _ test)))
-  where
-    small : (m g c n : ℕ) → m + c * g < 2 ^ 64 → n ≤ c → m + g * n < 2 ^ 64
-    small m g c n h k = let times = mul-le-mul-left g k in let turned = mul-comm c g in omega arith
+    (λ test is. subst (λ (x : ℕ). x < 2 ^ 64) (value-same is) (scaled-below (col .minimum) (col .gcd) (col .count) n h (leb-true _ _ test)))
 
 value-words : (codec : Codec) (col : Column) (b : Block) (r n u : ℕ) → col .minimum + col .count * col .gcd < 2 ^ 64 → valueIn codec col b r n ≡ value u → u < 2 ^ 64
 unfolding valueIn

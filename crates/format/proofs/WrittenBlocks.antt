@@ -15,6 +15,7 @@ use lib.ListN.{length, take, drop, getD, length-append, length-take, length-drop
 use lib.Seq.{drop-drop, drop-append-add, drop-append-seam, getD-take, getD-drop, getD-append-add}
 use Rattle.format.specs.declared.Fields.{Fields}
 use Rattle.format.specs.declared.Line.{Line}
+use Rattle.format.specs.declared.Spelling.the-variants.{Shortest}
 use Rattle.format.specs.Outcome.{Outcome.value}
 use Rattle.format.specs.Word.{bytesFor, modAdd, AllBelow}
 use Rattle.format.specs.Varint.{spell}
@@ -97,7 +98,7 @@ entry-most ys =
 
 -- a block's fields as they are read at an offset
 abbrev pub fieldsOf : ℕ → List ℕ → Fields
-fieldsOf at ys = record { line = trained ys; bits = blockWidth ys; next = at + length (blockEntry ys) }
+fieldsOf at ys = record { line = trained ys; bits = blockWidth ys; next = at + length (blockEntry ys); spelling = Shortest }
 
 pub read-entry : (s : List ℕ) (at : ℕ) (ys more : List ℕ) → drop at s ≡ blockEntry ys ++ more → readFields s at ≡ value (fieldsOf at ys)
 unfolding blockEntry
@@ -130,7 +131,7 @@ numbers-append start (x ∷ a) b =
     rw (← moved) (ap (λ (l : List ℕ). trained x .slope ∷ trained x .intercept ∷ blockWidth x ∷ start ∷ l) (numbers-append (start + length (blockArea x)) a b))
 
 abbrev pub tableOf : ℕ → List (List ℕ) → Table
-tableOf start bs = record { numbers = numbersFrom start bs; area = start + length (joined blockArea bs) }
+tableOf start bs = record { numbers = numbersFrom start bs; area = start + length (joined blockArea bs); spelling = Shortest }
 
 -- where a footer stands, its blocks' table is read, whatever follows
 pub read-blocks : (k : ℕ) (ns s : List ℕ) (at start : ℕ) (more : List ℕ) → drop at s ≡ footer (blocksIn k ns) ++ more → readBlocks k s at start (length ns) ≡ value (tableOf start (blocksIn k ns))

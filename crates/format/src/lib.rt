@@ -3,6 +3,7 @@
 
 ghost use mathlib.Core.Path.{_≡_};
 ghost use Rattle.format.specs.Refusals.{paper};
+ghost use Rattle.format.specs.Varint.{firstOf};
 
 // Why a call refuses: a case for each number, with what it also returns (specs/Refusals.antt has the table).
 pub enum Refusal {
@@ -101,26 +102,48 @@ pub struct ColumnRow(pub u32);
 
 pub struct BlockRow(pub u32);
 
-// A number that was read from the bytes, and the offset behind it.
+// How numbers are spelled: each in as few bytes as it can be, or the first that is not at an offset.
+pub enum Spelling {
+    Shortest,
+    Longer { offset: usize },
+}
+
+impl Spelling {
+    // Of the spellings of some numbers and of those behind them, the first longer one.
+    pub fn or_later(self, later: Spelling) -> Spelling
+        ensures { λ r. ⌜ r ≡ firstOf self later ⌝ }
+    {
+        match self {
+            Spelling::Shortest => later,
+            Spelling::Longer { offset: _ } => self,
+        }
+    }
+}
+
+// A number that was read from the bytes, the offset behind it, how many bytes it took, and how it is spelled.
 pub struct Field {
     pub value: u64,
     pub next: usize,
+    pub used: usize,
+    pub spelling: Spelling,
 }
 
-// A head that was read, and the offset behind it.
+// A head that was read, the offset behind it, and how its numbers are spelled.
 pub struct Head {
     pub minimum: u64,
     pub gcd: u64,
     pub count: u64,
     pub rows: u32,
     pub next: usize,
+    pub spelling: Spelling,
 }
 
-// A line and a width that were read, and the offset behind them.
+// A line and a width that were read, the offset behind them, and how the line is spelled.
 pub struct Fields {
     pub line: Line,
     pub bits: u8,
     pub next: usize,
+    pub spelling: Spelling,
 }
 
 // What the values of a column are. A list of them is lent as words: a signed number or a date by its two's complement bits, a float by
@@ -153,9 +176,9 @@ pub enum Written {
     Refused(Refusal),
 }
 
-// Opening: the column; its blocks stand in the lent table.
+// Opening: the column, and how its numbers are spelled; its blocks stand in the lent table.
 pub enum Opened {
-    Column(Column),
+    Column(Column, Spelling),
     Refused(Refusal),
 }
 

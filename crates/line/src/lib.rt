@@ -139,6 +139,8 @@ pub fn fields_read(s: &[u8], at: usize) -> FieldsRead
     if bits > 56 && bits != 64 {
         return FieldsRead::Refused(Refusal::IllegalWidth { offset: place });
     }
+    let first = slope.spelling;
+    let second = intercept.spelling;
     FieldsRead::Fields(Fields {
         line: Line {
             slope: slope.value,
@@ -146,6 +148,7 @@ pub fn fields_read(s: &[u8], at: usize) -> FieldsRead
         },
         bits,
         next: place + 1,
+        spelling: first.or_later(second),
     })
 }
 

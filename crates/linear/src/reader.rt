@@ -35,7 +35,7 @@ pub fn load(bytes: &[u8], head: Head) -> Opened
         return Opened::Refused(Refusal::AreaShort);
     }
     let line = fields.line;
-    Opened::Column(Column {
+    let column = Column {
         minimum: head.minimum,
         gcd: head.gcd,
         count: head.count,
@@ -43,7 +43,10 @@ pub fn load(bytes: &[u8], head: Head) -> Opened
         start: fields.next,
         size,
         codec: Codec::Linear(line, fields.bits),
-    })
+    };
+    let first = head.spelling;
+    let second = fields.spelling;
+    Opened::Column(column, first.or_later(second))
 }
 
 // Internal: asks for a Linear column of this line and this legal width, whose maximum has 64 bits and whose area starts within the bytes. The value of a row, which no block has a part in.

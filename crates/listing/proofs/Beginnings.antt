@@ -2,7 +2,7 @@
 --     begun-refused, begun-column      with a refusal's line; with a column's first line
 -- Assumes nothing.
 use Prim.Native.Nat.{ℕ, _+_, _*_}
-use mathlib.Core.Path.{_≡_, ap, _∙_}
+use mathlib.Core.Path.{_≡_, sym, ap, _∙_}
 use mathlib.Core.List.{List}
 use native.Mathlib.Nat.{zero-add}
 use native.Mathlib.Omega.{arith}
@@ -12,10 +12,12 @@ use Rattle.format.specs.declared.Column.{Column}
 use Rattle.format.specs.declared.Opened.{Opened}
 use Rattle.format.specs.declared.Opened.the-variants.{Column as OpenedColumn, Refused}
 use Rattle.format.specs.declared.Refusal.{Refusal}
+use Rattle.format.specs.declared.Spelling.{Spelling}
 use Rattle.format.specs.Listing.{ascii, namedLine, headLine, codeOf}
 use Rattle.format.specs.Opening.{Loaded}
 use Rattle.format.specs.Outcome.{Outcome, Outcome.value, Outcome.refusal, Wrote}
 use Rattle.format.specs.Refusals.{openedMeaning}
+use Rattle.format.proofs.Outcomes.{value-same}
 use Rattle.u64_based.specs.Calls.{OpenedAs}
 use Rattle.listing.specs.declared.Begun.the-variants.{Column as BegunColumn, Refused as BegunRefused}
 use Rattle.listing.specs.Beginning.{refusedBy, columnLine, BegunAs}
@@ -32,15 +34,15 @@ module _ {o : Outcome Loaded} {r : Opened} {before after old new : List ℕ} {n 
           let long : n ≡ length (namedLine (ascii "refused ") number) = wrote .ends ∙ zero-add _ in
           record { answer = cc; table = f .table; line = wrote .list ∙ rw same; counts = shown }
 
-  pub begun-column : {c : Column} {code : ℕ} → r ≡ OpenedColumn c → code ≡ codeOf (c .codec)
+  pub begun-column : {c : Column} {p : Spelling} {code : ℕ} → r ≡ OpenedColumn c p → code ≡ codeOf (c .codec)
       → Wrote old 0 (headLine code (c .rows) (c .minimum) (c .minimum + c .gcd * c .count) (c .gcd)) new n
       → BegunAs o (BegunColumn c n) before after old new
   unfolding columnLine
-  begun-column {c} {code} is by wrote = go o found
+  begun-column {c} {p} {code} is by wrote = go o found
     where
       go : (o : Outcome Loaded) → OpenedAs o r before after → BegunAs o (BegunColumn c n) before after old new
       go (value l) f =
-          let same : c ≡ l .column = cc in
+          let same : c ≡ l .column = ap (λ (a : Column × Spelling). a .0) (value-same (sym (ap openedMeaning is) ∙ f .answer)) in
           let w : Wrote old 0 (columnLine c) new n = rw by at wrote in
           let long : n ≡ length (columnLine c) = w .ends ∙ zero-add _ in
           record { answer = cc; table = f .table; line = w .list ∙ rw same; counts = shown }

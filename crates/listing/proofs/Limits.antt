@@ -5,7 +5,7 @@
 --     here-opened, here-bounds      what a program opens was opened, with room for 2048 blocks; its maximum has 64 bits
 -- Assumes nothing.
 use Prim.Native.Nat.{ℕ, _+_, _*_, _/_, _^_, _≤_, _<_}
-use mathlib.Core.Path.{_≡_, refl, sym, _∙_}
+use mathlib.Core.Path.{_≡_, refl, sym, ap, _∙_}
 use mathlib.Core.Bool.{Bool, true, false}
 use mathlib.Core.List.{List, []}
 use native.Mathlib.Nat.{mul-comm}
@@ -18,6 +18,7 @@ use Rattle.format.specs.declared.Fields.{Fields}
 use Rattle.format.specs.declared.Head.{Head}
 use Rattle.format.specs.declared.Opened.the-variants.{Column as OpenedColumn, Refused}
 use Rattle.format.specs.declared.Refusal.{Refusal}
+use Rattle.format.specs.declared.Spelling.{Spelling}
 use Rattle.format.specs.declared.Refusal.the-variants.{OverLimit}
 use Rattle.format.specs.Listing.{tooMany, openedHere}
 use Rattle.format.specs.Opening.{Loaded, Table, opened, columnIn}
@@ -49,23 +50,23 @@ no-blocks s =
     (λ (h : Head) (t : Table) (f : OpensBlockwise s h 2048 t) (many : 1048576 < h .rows). absurd (omega (arith, f .enough)))
 
 module _ (s before after : List ℕ) (small : length s ≤ 65536) (full : length before ≡ 8192) where
-  module _ (c : Column) (found : OpenedAs (opened s (length before / 4)) (OpenedColumn c) before after) where
+  module _ (c : Column) (p : Spelling) (found : OpenedAs (opened s (length before / 4)) (OpenedColumn c p) before after) where
     pub over-rows : 1048576 < c .rows → OpenedAs (openedHere s) (Refused OverLimit) before after
     over-rows many = rw (few-bytes s small) (go (opened s 2048) (no-blocks s) (rw full at found))
       where
-        go : (o : Outcome Loaded) → ((l : Loaded) → o ≡ value l → 1048576 < l .column .rows → l .table ≡ []) → OpenedAs o (OpenedColumn c) before after
+        go : (o : Outcome Loaded) → ((l : Loaded) → o ≡ value l → 1048576 < l .column .rows → l .table ≡ []) → OpenedAs o (OpenedColumn c p) before after
             → OpenedAs (tooMany o) (Refused OverLimit) before after
         go (value l) none f =
-            let more : 1048576 < l .column .rows = rw (value-same (f .answer)) at many in
+            let more : 1048576 < l .column .rows = rw (ap (λ (a : Column × Spelling). a .0) (value-same (f .answer))) at many in
             rw (lt-leb (l .column .rows) 1048576 more) (record { answer = refl; table = f .table ∙ rw (none l refl more) })
         go (refusal number also) none f = absurd (not-value (sym (f .answer)))
 
-    pub kept-column : c .rows ≤ 1048576 → OpenedAs (openedHere s) (OpenedColumn c) before after
+    pub kept-column : c .rows ≤ 1048576 → OpenedAs (openedHere s) (OpenedColumn c p) before after
     kept-column few = rw (few-bytes s small) (go (opened s 2048) (rw full at found))
       where
-        go : (o : Outcome Loaded) → OpenedAs o (OpenedColumn c) before after → OpenedAs (tooMany o) (OpenedColumn c) before after
+        go : (o : Outcome Loaded) → OpenedAs o (OpenedColumn c p) before after → OpenedAs (tooMany o) (OpenedColumn c p) before after
         go (value l) f =
-            let less : l .column .rows ≤ 1048576 = rw (value-same (f .answer)) at few in
+            let less : l .column .rows ≤ 1048576 = rw (ap (λ (a : Column × Spelling). a .0) (value-same (f .answer))) at few in
             rw (le-leb (l .column .rows) 1048576 less) f
         go (refusal number also) f = absurd (not-value (sym (f .answer)))
 
@@ -103,10 +104,10 @@ here-opened s o e = by-demand (leb (length s) 65536) 16 [] (tooMany (opened s 20
     within (refusal number also) e = absurd (kept (eqb number 11) number also e)
 
 -- its maximum has 64 bits
-pub here-bounds : (s : List ℕ) (c : Column) → columnIn (openedHere s) ≡ value c → c .minimum + c .gcd * c .count < 2 ^ 64
-here-bounds s c e =
-    by-step (openedHere s) (λ (o : Loaded). value (o .column)) e λ (o : Loaded) found same.
-    let is : o .column ≡ c = value-same same in
+pub here-bounds : (s : List ℕ) (c : Column) (p : Spelling) → columnIn (openedHere s) ≡ value (c, p) → c .minimum + c .gcd * c .count < 2 ^ 64
+here-bounds s c p e =
+    by-step (openedHere s) (λ (o : Loaded). value (o .column, o .spelling)) e λ (o : Loaded) found same.
+    let is : o .column ≡ c = ap (λ (a : Column × Spelling). a .0) (value-same same) in
     let laid = opened-laid s 2048 o (here-opened s o found) in
     let bounds : c .minimum + c .count * c .gcd < 2 ^ 64 = rw is at (laid .head .bounds) in
     omega (arith, mul-comm (c .gcd) (c .count))

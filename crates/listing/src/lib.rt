@@ -48,7 +48,7 @@ pub fn open(bytes: &[u8], table: &mut [u64; 8192]) -> Opened
     }
     let opened = u64_based::open(bytes, table);
     match opened {
-        Opened::Column(column) => {
+        Opened::Column(column, _) => {
             if ROWS_MAX < column.rows {
                 return Opened::Refused(Refusal::OverLimit);
             }
@@ -67,7 +67,7 @@ pub fn begin(bytes: &[u8], table: &mut [u64; 8192], line: &mut [u8; 128]) -> Beg
     ensures { λ r. ⌜ BegunAs (openedHere (now (bytes .entry))) r (now (table .entry)) (now (table .exit)) (now (line .entry)) (now (line .exit)) ⌝ }
 {
     let opened = open(bytes, table);
-    let Opened::Column(column) = opened else {
+    let Opened::Column(column, _) = opened else {
         let number = lines::refusal_number(opened);
         return Begun::Refused(number, lines::refused_line(number, line));
     };

@@ -31,7 +31,7 @@ pub fn refusal_number(opened: Opened) -> u8
     ensures { λ r. ⌜ r ≡ refusedBy (openedMeaning opened) ⌝ }
 {
     match opened {
-        Opened::Column(_) => 0,
+        Opened::Column(_, _) => 0,
         Opened::Refused(refusal) => refusal.number(),
     }
 }

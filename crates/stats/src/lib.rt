@@ -5,6 +5,7 @@ ghost use lib.Dec.{ltb};
 ghost use lib.ListN.{length};
 ghost use Rattle.format.specs.Outcome.{Wrote};
 ghost use Rattle.format.specs.Refusals.{rowMeaning};
+ghost use Rattle.format.specs.Varint.{firstOf};
 ghost use Rattle.format.specs.Reading.{scaled};
 ghost use Rattle.format.specs.Stats.{gcd, distance, statsOf, countOf, spellHead, readHead};
 ghost use Rattle.format.specs.Typed.{storedAs};
@@ -13,10 +14,12 @@ ghost use Rattle.stats.specs.Asked.{Sound};
 use format::Column;
 use format::ColumnRow;
 use format::ColumnStats;
+use format::Field;
 use format::Head;
 use format::Kind;
 use format::Refusal;
 use format::RowRead;
+use format::Spelling;
 use vint::VintRead;
 
 // The greatest common divisor, by Euclid's rule.
@@ -143,6 +146,17 @@ pub enum HeadRead {
     Refused(Refusal),
 }
 
+// How the head's numbers are spelled.
+fn spelled(minimum: Field, gcd: Field, count: Field, rows: Field) -> Spelling
+    ensures { λ r. ⌜ r ≡ firstOf (minimum .spelling) (firstOf (gcd .spelling) (firstOf (count .spelling) (rows .spelling))) ⌝ }
+{
+    let first = minimum.spelling;
+    let second = gcd.spelling;
+    let third = count.spelling;
+    let fourth = rows.spelling;
+    first.or_later(second.or_later(third.or_later(fourth)))
+}
+
 // The head after the code byte, field by field.
 pub fn head_read(s: &[u8]) -> HeadRead
     ensures { λ r. ⌜ headMeaning r ≡ readHead (now (s .entry)) ⌝ }
@@ -178,5 +192,6 @@ pub fn head_read(s: &[u8]) -> HeadRead
         count: count.value,
         rows: rows.value as u32,
         next: rows.next,
+        spelling: spelled(minimum, gcd, count, rows),
     })
 }

@@ -2,7 +2,6 @@
 --     Opens, opens                       what an answer of `open` that is a column comes from
 --     reads, written-of, front-of        what a call left is what was found
 --     own-rows                           an opened column answers its own rows with a value or 14: never 12, never 13
---     own-rows, own-fits                 an opened column answers its own rows with a value or 14: never 12, never 13; it fits together with its own bytes and table
 --     Returned, calls-return             demand 2: what was written opens, and `row` and `lookup` give the values back
 --     Told, calls-tell                   demand 3: what `row` answers depends on its row's own bits, and tells every change of them
 -- Assumes nothing.
@@ -10,7 +9,6 @@ use Prim.Native.Nat.{ℕ, _+_, _*_, _/_, _^_, _≤_, _<_}
 use mathlib.Core.Path.{_≡_, refl, sym, ap, _∙_, subst}
 use mathlib.Core.Logic.{_⊎_, inl, inr, ⊎-elim}
 use mathlib.Core.List.{List, [], _∷_}
-use mathlib.Core.Bool.{Bool, true, false}
 use native.Mathlib.Omega.{arith}
 use lib.ListN.{length, take, drop, getD}
 use lib.Seq.{sets, sets-eq, take-at}
@@ -19,6 +17,8 @@ use Rattle.format.specs.declared.Found.{Found}
 use Rattle.format.specs.declared.Opened.{Opened}
 use Rattle.format.specs.declared.Opened.the-variants.{Column as OpenedColumn}
 use Rattle.format.specs.declared.Refusal.the-variants.{OutOfBounds}
+use Rattle.format.specs.declared.Spelling.{Spelling}
+use Rattle.format.specs.declared.Spelling.the-variants.{Shortest}
 use Rattle.format.specs.declared.RowRead.{RowRead}
 use Rattle.format.specs.declared.RowRead.the-variants.{Value, Refused as NotRead}
 use Rattle.format.specs.declared.Written.the-variants.{Length}
@@ -28,77 +28,49 @@ use Rattle.format.specs.Refusals.{rowMeaning}
 use Rattle.format.specs.Bodies.{blockCount}
 use Rattle.format.specs.Writing.{written}
 use Rattle.format.specs.Opening.{Loaded, opened}
-use Rattle.format.specs.Reading.{blockAt, fits, rowIn, rowAt}
+use Rattle.format.specs.Reading.{rowAt}
 use Rattle.format.specs.Lookup.{lookedUp, within}
 use Rattle.format.specs.Demands.{filledBy, answered, readsAs, GivesBack, Alike, SameBits, Differ, RowsTell}
 use Rattle.format.proofs.Answers.{row-injective, opened-injective}
-use Rattle.format.proofs.Outcomes.{not-value}
+use Rattle.format.proofs.Outcomes.{not-value, value-same}
 use Rattle.format.proofs.Rows.{own-row}
-use borrow.Author.Tests.{lt-ltb}
 use Rattle.format.proofs.Writes.{written-as}
-use Rattle.format.proofs.Demand2.{demand2}
+use Rattle.format.proofs.Demand2.{demand2, written-shortest}
 use Rattle.format.proofs.Demand3.{demand3}
 use Rattle.u64_based.specs.Calls.{OpenedAs, FoundAs, SerializedAs}
 
 -- ---- opening
 
--- an answer of `open` that is a column: what opening found, whose column it is and whose blocks the lent table holds afterwards
-pub record Opens (s table after : List ℕ) (c : Column) (o : Loaded) : Type 0 where
+-- an answer of `open` that is a column: what opening found, whose column and spelling it is and whose blocks the lent table holds afterwards
+pub record Opens (s table after : List ℕ) (c : Column) (p : Spelling) (o : Loaded) : Type 0 where
   pub found : opened s (length table / 4) ≡ value o
   pub column : o .column ≡ c
+  pub spelling : o .spelling ≡ p
   pub filled : after ≡ filledBy o table
 
-opens-of : (x : Outcome Loaded) (table after : List ℕ) (c : Column) → OpenedAs x (OpenedColumn c) table after
-    → (o : Loaded) × (x ≡ value o) × (o .column ≡ c) × (after ≡ filledBy o table)
-opens-of (value o) table after c r =
-    let e : value c ≡ value (o .column) = r .answer in
-    (o, refl, (cc), r .table)
-opens-of (refusal number also) table after c r =
-    let e : _≡_ {A = Outcome Column} (value c) (refusal number also) = r .answer in
-    let z : _≡_ {A = ℕ} 0 1 = cc in
-    absurd (omega arith)
-
-pub opens : (s table after : List ℕ) (c : Column) → OpenedAs (opened s (length table / 4)) (OpenedColumn c) table after → (o : Loaded) × Opens s table after c o
-opens s table after c r =
-    let o = opens-of (opened s (length table / 4)) table after c r in
-    (o .0, record { found = o .1; column = o .2; filled = o .3 })
+pub opens : (s table after : List ℕ) (c : Column) (p : Spelling) → OpenedAs (opened s (length table / 4)) (OpenedColumn c p) table after → (o : Loaded) × Opens s table after c p o
+opens s table after c p r = go (opened s (length table / 4)) refl r
+  where
+    go : (x : Outcome Loaded) → opened s (length table / 4) ≡ x → OpenedAs x (OpenedColumn c p) table after → (o : Loaded) × Opens s table after c p o
+    go (value o) is r =
+        let same : _≡_ {A = Column × Spelling} (c, p) (o .column, o .spelling) = value-same (r .answer) in
+        (o, record { found = is; column = sym (ap (λ (a : Column × Spelling). a .0) same); spelling = sym (ap (λ (a : Column × Spelling). a .1) same); filled = r .table })
+    go (refusal number also) is r = absurd (not-value (sym (r .answer)))
 
 -- reading with what the call left is the demands' reading
-pub reads : {s table after : List ℕ} {c : Column} {o : Loaded} → Opens s table after c o → (r : ℕ) → rowAt c after s r ≡ answered o table s r
-reads {s} {table} {after} {c} {o} e r = rw (e .filled, ← (e .column))
+pub reads : {s table after : List ℕ} {c : Column} {p : Spelling} {o : Loaded} → Opens s table after c p o → (r : ℕ) → rowAt c after s r ≡ answered o table s r
+reads {s} {table} {after} {c} {p} {o} e r = rw (e .filled, ← (e .column))
 
 -- the rows of an opened column answer a value or 14
-pub own-rows : (s table after : List ℕ) (c : Column) → OpenedAs (opened s (length table / 4)) (OpenedColumn c) table after
+pub own-rows : (s table after : List ℕ) (c : Column) (p : Spelling) → OpenedAs (opened s (length table / 4)) (OpenedColumn c p) table after
     → (r : ℕ) → r < c .rows → (a : RowRead) → rowMeaning a ≡ rowAt c after s r → ((v : ℕ) × (rowMeaning a ≡ value v)) ⊎ (a ≡ NotRead (OutOfBounds r))
-own-rows s table after c opened-as r h a e =
-    let o = opens s table after c opened-as in
+own-rows s table after c p opened-as r h a e =
+    let o = opens s table after c p opened-as in
     let known : r < o .0 .column .rows = rw (o .1 .column) h in
     ⊎-elim
     (λ v. inl (v .0, e ∙ reads (o .1) r ∙ v .1))
     (λ f. inr (row-injective a (NotRead (OutOfBounds r)) (e ∙ reads (o .1) r ∙ f)))
     (own-row s table (o .0) (o .1 .found) r known)
-
--- where the test of fitting together fails, a row is refused 13
-unfit-row : (c : Column) (table s : List ℕ) (r : ℕ) → r < c .rows → fits c (length table / 4) (blockAt table (r / 512)) s r ≡ false → rowAt c table s r ≡ refusal 13 []
-unfolding rowIn
-unfit-row c table s r h e = rw (lt-ltb r (c .rows) h, e)
-
--- an opened column, read with the very bytes and table of its opening, fits together with them at every row: 13 is never met
-pub own-fits : (s table after : List ℕ) (c : Column) → OpenedAs (opened s (length table / 4)) (OpenedColumn c) table after
-    → (r : ℕ) → r < c .rows → fits c (length after / 4) (blockAt after (r / 512)) s r ≡ true
-own-fits s table after c opened-as r h = by-test (fits c (length after / 4) (blockAt after (r / 512)) s r) refl (own-row s table (o .0) (o .1 .found) r (rw (o .1 .column) h))
-  where
-    o : (l : Loaded) × Opens s table after c l
-    o = opens s table after c opened-as
-
-    by-test : (t : Bool) → fits c (length after / 4) (blockAt after (r / 512)) s r ≡ t
-        → ((v : ℕ) × (answered (o .0) table s r ≡ value v)) ⊎ (answered (o .0) table s r ≡ refusal 14 (r ∷ [])) → t ≡ true
-    by-test true e answer = refl
-    by-test false e (inl v) = absurd (not-value (sym (unfit-row c after s r h e) ∙ reads (o .1) r ∙ v .1))
-    by-test false e (inr f) =
-        let two : _≡_ {A = Outcome ℕ} (refusal 13 []) (refusal 14 (r ∷ [])) = sym (unfit-row c after s r h e) ∙ reads (o .1) r ∙ f in
-        let z : _≡_ {A = ℕ} 13 14 = cc in
-        absurd (omega arith)
 
 -- ---- demand 2
 
@@ -113,10 +85,10 @@ written-of (refusal number also) before after n r =
     let z : _≡_ {A = ℕ} 0 1 = cc in
     absurd (omega arith)
 
--- what the calls give back of a list, from bytes that were opened: a column of as many rows, each value, and what a lookup in the list finds
+-- what the calls give back of a list, from bytes that were opened: a column of as many rows, spelled as short as can be, each value, and what a lookup in the list finds
 pub record Returned (vs s after : List ℕ) (a : Opened) : Type 0 where
   pub column : Column
-  pub opens-to : a ≡ OpenedColumn column
+  pub opens-to : a ≡ OpenedColumn column Shortest
   pub count : column .rows ≡ length vs
   pub rows : (r : ℕ) → r < length vs → (b : RowRead) → rowMeaning b ≡ rowAt column after s r → b ≡ Value (getD vs r 0)
   pub found : (low high first end : ℕ) (before list : List ℕ) (f : Found)
@@ -133,7 +105,7 @@ returned vs cs bytes table after room each e enough a opened-as =
     let left : after ≡ filledBy o table = opened-as .table ∙ rw (g .1) in
     record {
       column = o .column;
-      opens-to = opened-injective a (OpenedColumn (o .column)) (opened-as .answer ∙ rw (g .1));
+      opens-to = opened-injective a (OpenedColumn (o .column) Shortest) (opened-as .answer ∙ rw (g .1, written-shortest vs cs bytes table room each e enough o (g .1)));
       count = back .count;
       rows = λ (r : ℕ) (h : r < length vs) (b : RowRead) (f : rowMeaning b ≡ rowAt (o .column) after bytes r).
           row-injective b (Value (getD vs r 0)) (f ∙ rw left (back .rows r h));
@@ -173,9 +145,9 @@ differ-too r a b x y e f (inr both) =
     inr (row-injective a (NotRead (OutOfBounds r)) (e ∙ both .0), row-injective b (NotRead (OutOfBounds r)) (f ∙ both .1))
 
 -- demand 3, of the calls
-pub calls-tell : (s t table other after other-after : List ℕ) (c d : Column) (o p : Loaded) → Opens s table after c o → Opens t other other-after d p → Alike s t o
+pub calls-tell : (s t table other after other-after : List ℕ) (c d : Column) (q r : Spelling) (o p : Loaded) → Opens s table after c q o → Opens t other other-after d r p → Alike s t o
     → Told s t after other-after c d o
-calls-tell s t table other after other-after c d o p e f alike =
+calls-tell s t table other after other-after c d q r o p e f alike =
     let told : RowsTell s t table other o p = demand3 .2 s t table other o p (e .found) (f .found) alike in
     record {
       same = sym (e .column) ∙ ap (λ (x : Loaded). x .column) (told .same) ∙ f .column;

@@ -11,6 +11,7 @@ use lib.ListN.{length, getD}
 use borrow.Author.Tests.{le-leb, lt-leb}
 use Rattle.format.specs.declared.Fields.{Fields}
 use Rattle.format.specs.declared.Head.{Head}
+use Rattle.format.specs.declared.Spelling.the-variants.{Shortest}
 use Rattle.format.specs.Outcome.{Outcome, Outcome.value, Outcome.refusal, _>>=_, stored}
 use Rattle.format.specs.Stats.{readHead}
 use Rattle.format.specs.Opening.{Loaded, Table, readBlocks, openBlockwise, openBody, opened, columnIn, tableIn}
@@ -50,7 +51,7 @@ pub record Tabled (s : List ℕ) (room : ℕ) (o : Outcome Loaded) : Type 0 wher
 -- no rows have no blocks
 none-fillable : (s : List ℕ) (long : ℕ) → Fillable s 0 long
 unfolding readBlocks
-none-fillable s long = record { checked = record { found = record { numbers = []; area = 0 }; is = refl }; enough = omega arith }
+none-fillable s long = record { checked = record { found = record { numbers = []; area = 0; spelling = Shortest }; is = refl }; enough = omega arith }
 
 none-same : (s l : List ℕ) → stored (numbersIn (blocksFrom s (firstCursor s 0))) l ≡ l
 unfolding readBlocks

@@ -27,6 +27,8 @@ use Rattle.format.specs.declared.Range.{Range}
 use Rattle.format.specs.declared.RowRead.{RowRead}
 use Rattle.format.specs.declared.SignedRead.{SignedRead}
 use Rattle.format.specs.declared.SignedRead.the-variants.{Value as SignedValue}
+use Rattle.format.specs.declared.Spelling.{Spelling}
+use Rattle.format.specs.declared.Spelling.the-variants.{Shortest}
 use Rattle.format.specs.declared.Written.the-variants.{Length}
 use Rattle.format.specs.Outcome.{Outcome, Outcome.value}
 use Rattle.format.specs.Word.{AllBelow}
@@ -41,16 +43,16 @@ use Rattle.format.specs.Demands.{filledBy, answered, readsAs, GivesBackAs, Alik
 use Rattle.format.proofs.Answers.{opened-injective, signed-injective, flag-injective, float-injective}
 use Rattle.format.proofs.Writes.{written-as}
 use Rattle.format.proofs.TypedLookups.{row-words, covered-lookup, signed-covers, flag-covers, float-covers}
-use Rattle.format.proofs.TypedDemands.{returns-as, tell-typed}
+use Rattle.format.proofs.TypedDemands.{returns-as, shortest-as, tell-typed}
 use Rattle.u64_based.specs.Calls.{OpenedAs, FoundAs, SerializedAs}
 use Rattle.u64_based.proofs.Calls.{Opens, reads, written-of, front-of}
 
 -- ---- demand 2
 
--- what the calls give back of a list of values of a kind: a column of as many rows, each row's value, and by any range of stored numbers that covers some values what a lookup of those in the list itself finds
+-- what the calls give back of a list of values of a kind: a column of as many rows, spelled as short as can be, each row's value, and by any range of stored numbers that covers some values what a lookup of those in the list itself finds
 pub record ReturnedAs (kind : Kind) (xs s after : List ℕ) (a : Opened) : Type 0 where
   pub column : Column
-  pub opens-to : a ≡ OpenedColumn column
+  pub opens-to : a ≡ OpenedColumn column Shortest
   pub count : column .rows ≡ length xs
   pub rows : (r : ℕ) → r < length xs → (b : RowRead) → rowMeaning b ≡ rowAt column after s r → readAs (readingOf kind .value) (rowMeaning b) ≡ value (meant kind (getD xs r 0))
   pub found : (low high : readingOf kind .Value) (range : Range) → Covers (readingOf kind) low high range → (first end : ℕ) (before list : List ℕ) (f : Found)
@@ -67,7 +69,7 @@ returned-as kind xs cs bytes table after room each e enough a opened-as =
     let left : after ≡ filledBy o table = opened-as .table ∙ rw (g .1) in
     record {
       column = o .column;
-      opens-to = opened-injective a (OpenedColumn (o .column)) (opened-as .answer ∙ rw (g .1));
+      opens-to = opened-injective a (OpenedColumn (o .column) Shortest) (opened-as .answer ∙ rw (g .1, shortest-as kind xs cs bytes table room each e enough o (g .1)));
       count = back .count;
       rows = λ (r : ℕ) (h : r < length xs) (b : RowRead) (f : rowMeaning b ≡ rowAt (o .column) after bytes r).
           rw (f, left) (back .rows r h);
@@ -139,10 +141,10 @@ module _ (c : Column) (table bytes : List ℕ) (first end : ℕ) (found list : L
 -- ---- demand 3
 
 -- of two byte strings that differ only inside the packed area, each opened by a call, a row whose bits differ
-pub typed-tell : (s t table other after other-after : List ℕ) (c d : Column) (o p : Loaded) → Opens s table after c o → Opens t other other-after d p → Alike s t o
+pub typed-tell : (s t table other after other-after : List ℕ) (c d : Column) (l m : Spelling) (o p : Loaded) → Opens s table after c l o → Opens t other other-after d m p → Alike s t o
     → (r : ℕ) → r < c .rows → (SameBits o s t r → ⊥) → (a b : RowRead) → rowMeaning a ≡ rowAt c after s r → rowMeaning b ≡ rowAt d other-after t r
     → TellAs r (rowMeaning a) (rowMeaning b)
-typed-tell s t table other after other-after c d o p e f alike r h bits a b x y =
+typed-tell s t table other after other-after c d l m o p e f alike r h bits a b x y =
     let told : TellAs r (answered o table s r) (answered p other t r) = tell-typed s t table other o p (e .found) (f .found) alike r (rw (e .column) h) bits in
     subst (λ (u : Outcome ℕ). TellAs r u (rowMeaning b)) (sym (x ∙ reads e r))
     (subst (λ (u : Outcome ℕ). TellAs r (answered o table s r) u) (sym (y ∙ reads f r)) told)

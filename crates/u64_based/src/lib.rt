@@ -16,9 +16,9 @@ ghost use Rattle.format.specs.Writing.{written};
 ghost use Rattle.format.specs.Opening.{columnIn, opened};
 ghost use Rattle.format.specs.Lookup.{lookedUp, within};
 ghost use Rattle.format.specs.Reading.{rowAt};
+ghost use Rattle.format.specs.Runs.{decoded};
 ghost use Rattle.format.specs.Typed.{storedAs};
 ghost use Rattle.u64_based.specs.Calls.{SerializedAs, OpenedAs, FoundAs, RunAs};
-ghost use Rattle.format.specs.Runs.{decoded};
 use choice::Best;
 use choice::Place;
 use format::Column;
@@ -94,8 +94,8 @@ pub fn open_plain(bytes: &[u8], room: usize) -> Opened
     opening::load(code, bytes, head, room)
 }
 
-// Opens a column, and puts the blocks of a Blockwise one into the lent table, four numbers a block. A refusal leaves the table
-// as it was; so does a column without blocks.
+// Opens a column, says how its numbers are spelled, and puts the blocks of a Blockwise one into the lent table, four numbers a
+// block. A refusal leaves the table as it was; so does a column without blocks.
 pub fn open(bytes: &[u8], table: &mut [u64]) -> Opened
     ensures { λ r. ⌜ OpenedAs (opened (now (bytes .entry)) (length (now (table .entry)) / 4)) r (now (table .entry)) (now (table .exit)) ⌝ }
 {

@@ -23,7 +23,7 @@ pub(crate) fn table_rows(opened: Opened) -> u32
     ensures { λ r. ⌜ r ≡ tabled (openedMeaning opened) ⌝ }
 {
     match opened {
-        Opened::Column(column) => {
+        Opened::Column(column, _) => {
             let codec = column.codec;
             match codec {
                 Codec::Blockwise => column.rows,

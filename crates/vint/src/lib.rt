@@ -1,20 +1,36 @@
 // The varint: a number in one to ten bytes, seven bits a byte, lowest first, and 128 added to the last. It is read at an
 // offset, measured, and written.
 //
-// Reading takes spellings that are longer than they need be, of up to ten bytes; writing gives the shortest.
+// Reading takes spellings that are longer than they need be, of up to ten bytes, and says so; writing gives the shortest.
 ghost use mathlib.Core.Path.{_≡_};
 ghost use Prim.Native.Nat.{_+_, _≤_};
 ghost use lib.ListN.{length};
 ghost use Rattle.format.specs.Outcome.{Wrote};
 ghost use Rattle.format.specs.Varint.{readVarint, spell};
-ghost use Rattle.vint.specs.Meaning.{vintMeaning};
+ghost use Rattle.vint.specs.Meaning.{vintMeaning, spelledBy};
 use format::Field;
 use format::Refusal;
+use format::Spelling;
 
-// What reading finds: the number with the offset behind it, or the refusal of the field, number 6 with its offset.
+// What reading finds: the number with the offset behind it, the bytes it takes and how it is spelled, or the refusal of the field,
+// number 6 with its offset.
 pub enum VintRead {
     Value(Field),
     Refused(Refusal),
+}
+
+// How a number at an offset is spelled whose last byte comes behind so many others: in more bytes than it need be exactly if there
+// are others and the last one adds nothing to them.
+fn spelled(at: usize, others: usize, last: u8) -> Spelling
+    ensures { λ r. ⌜ r ≡ spelledBy at others last ⌝ }
+{
+    if last != 128 {
+        return Spelling::Shortest;
+    }
+    if others == 0 {
+        return Spelling::Shortest;
+    }
+    Spelling::Longer { offset: at }
 }
 
 // The varint at an offset. It is refused where the bytes end before it does, where no byte of ten ends it, and where it is
@@ -30,11 +46,14 @@ pub fn read(s: &[u8], at: usize) -> VintRead
         if s.len() <= pos {
             return VintRead::Refused(Refusal::BadField { offset: at });
         }
-        let b = word::wide(s[pos]);
+        let last = s[pos];
+        let b = word::wide(last);
         if 128 <= b {
             return VintRead::Value(Field {
                 value: number + (b - 128) * scale,
                 next: pos + 1,
+                used: used + 1,
+                spelling: spelled(at, used, last),
             });
         }
         number += b * scale;
@@ -50,12 +69,16 @@ pub fn read(s: &[u8], at: usize) -> VintRead
         return VintRead::Value(Field {
             value: number,
             next: pos + 1,
+            used: used + 1,
+            spelling: spelled(at, used, b),
         });
     }
     if b == 129 {
         return VintRead::Value(Field {
             value: number + 0x8000_0000_0000_0000,
             next: pos + 1,
+            used: used + 1,
+            spelling: spelled(at, used, b),
         });
     }
     VintRead::Refused(Refusal::BadField { offset: at })

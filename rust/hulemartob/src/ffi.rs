@@ -27,7 +27,7 @@ unsafe extern "C" {
         table_len: usize,
         column: *mut [u64; 10],
         refusal: *mut [u64; 2],
-    );
+    ) -> u64;
 
     fn hulemartob_row(
         column: *const [u64; 10],
@@ -91,12 +91,14 @@ pub(crate) fn serialize(values: &[u64], codecs: &[u8], out: &mut [u8]) -> Result
     answer(refusal, length)
 }
 
-/// The ten numbers of an opened column; `table` has its blocks.
-pub(crate) fn open(bytes: &[u8], table: &mut [u64]) -> Result<[u64; 10], Refusal> {
+/// The ten numbers of an opened column, and the offset of its first number that is spelled in more bytes than it need be; `table` has
+/// its blocks.
+pub(crate) fn open(bytes: &[u8], table: &mut [u64]) -> Result<([u64; 10], Option<u64>), Refusal> {
     let (mut column, mut refusal) = ([0; 10], [0; 2]);
     // SAFETY: see the top of this file.
-    unsafe { hulemartob_open(bytes.as_ptr(), bytes.len(), table.as_mut_ptr(), table.len(), &mut column, &mut refusal) };
-    answer(refusal, column)
+    let longer =
+        unsafe { hulemartob_open(bytes.as_ptr(), bytes.len(), table.as_mut_ptr(), table.len(), &mut column, &mut refusal) };
+    answer(refusal, (column, (longer != u64::MAX).then_some(longer)))
 }
 
 /// The value of a row.

@@ -97,6 +97,7 @@ pub fn open(bytes: &[u8]) -> Result<Column<'_>, Refusal> {
 pub struct Column<'a> {
     bytes: &'a [u8],
     numbers: [u64; 10],
+    longer: Option<u64>,
     table: Vec<u64>,
 }
 
@@ -104,7 +105,7 @@ impl<'a> Column<'a> {
     /// Opens the column that `bytes` hold. Refused 5 to 10.
     pub fn open(bytes: &'a [u8]) -> Result<Column<'a>, Refusal> {
         let mut table = Vec::new();
-        let numbers = match ffi::open(bytes, &mut table) {
+        let (numbers, longer) = match ffi::open(bytes, &mut table) {
             // Zeroed memory is handed out as it is touched, and opening touches the table only once the column is known to be sound. So
             // a damaged column of a few bytes that claims 2^32 rows costs nothing here.
             Err(Refusal { number: 11, value: blocks }) => {
@@ -113,14 +114,14 @@ impl<'a> Column<'a> {
             }
             answer => answer?,
         };
-        Ok(Column { bytes, numbers, table })
+        Ok(Column { bytes, numbers, longer, table })
     }
 
     /// A column of any numbers and any table: codec, minimum, gcd, count, rows, start and size of the packed area; slope, intercept and
     /// width of a Linear column, else 0. Four numbers a block in the table: slope, intercept, width, start. What does not belong together
     /// is refused 13 as it is read.
     pub fn from_parts(bytes: &'a [u8], numbers: [u64; 10], table: Vec<u64>) -> Column<'a> {
-        Column { bytes, numbers, table }
+        Column { bytes, numbers, longer: None, table }
     }
 
     /// The ten numbers, as [`Column::from_parts`] takes them.
@@ -131,6 +132,12 @@ impl<'a> Column<'a> {
     /// The block table, four numbers a block; empty unless the column is Blockwise.
     pub fn table(&self) -> &[u64] {
         &self.table
+    }
+
+    /// The offset of the first number, in the head, the line or the blocks' fields, that is spelled in more bytes than it need be; none if
+    /// there is none, or if the column was made of parts.
+    pub fn longer_spelling(&self) -> Option<u64> {
+        self.longer
     }
 
     /// The bytes that hold the column.

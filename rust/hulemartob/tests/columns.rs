@@ -165,6 +165,14 @@ fn opening_refuses() {
 }
 
 #[test]
+fn spellings_are_told() {
+    assert_eq!(Column::open(&BITPACKED).unwrap().longer_spelling(), None);
+    assert_eq!(Column::open(&BLOCKWISE).unwrap().longer_spelling(), None);
+    assert_eq!(Column::open(&[0x00, 0x8A, 0x0A, 0x80, 0x82, 0x83, 0x18]).unwrap().longer_spelling(), Some(2));
+    assert_eq!(Column::open(&[0x02, 0x87, 0x81, 0x80, 0x81, 0x80, 0x00, 0x80, 0x00, 4, 0, 0, 0]).unwrap().longer_spelling(), Some(6));
+}
+
+#[test]
 fn parts_that_do_not_fit() {
     let column = Column::open(&BITPACKED).unwrap();
     assert_eq!(column.row(3), refused(12, 0));

@@ -14,6 +14,9 @@ enum-known-opened c = search needs
 column-numbers-requires : tie.Need-column-numbers-requires
 column-numbers-requires c κs = search needs
 
+longer-requires : tie.Need-longer-requires
+longer-requires c κs = search needs
+
 enum-known-q : tie.Need-enum-known-q
 enum-known-q c = search needs
 
@@ -24,7 +27,9 @@ same-length : tie.Need-same-length
 same-length c = search needs
 
 returns : tie.Need-returns
-returns c = opened-column (c .before .before .before .before .before .before .«open» .ensures) (c .before .before .opened .given .1) (c .column-numbers .ensures)
+returns c =
+    let n = c .before in
+    opened-column (n .before .before .before .before .before .before .«open» .ensures) (n .before .before .opened .given .1) (n .column-numbers .ensures) (c .longer .ensures)
 
 same-length-2 : tie.Need-same-length-2
 same-length-2 c = search needs
@@ -39,6 +44,7 @@ hulemartob-open-spec =
     open-requires
     enum-known-opened
     column-numbers-requires
+    longer-requires
     enum-known-q
     told-requires
     same-length

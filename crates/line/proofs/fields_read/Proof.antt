@@ -93,17 +93,21 @@ returns-4 c =
     let b = w .before .before in
     rw (slope-read (at-slope b), intercept-read b, width-illegal (bytes (at-slope b)) (intercept b .next) (w .before .if1 .left) (c .before .if2 .taken) (eqb-false _ _ (not-true _ (c .if3 .taken))))
 
-add-t15 : tie.Need-add-t15
-add-t15 c = search needs
+add-t17 : tie.Need-add-t17
+add-t17 c = search needs
+
+or-later-requires : tie.Need-or-later-requires
+or-later-requires c κs = search needs
 
 returns-5 : tie.Need-returns-5
 unfolding readFields
 returns-5 c =
-    let w = c .before in
+    let j = c .before in
+    let w = j .before in
     let b = w .before .before in
     let bits = getD (bytes (at-slope b)) (intercept b .next) 0 in
-    let lawful : legal bits ≡ true = ⊎-elim (λ l. legal-full bits (eqb-true _ _ (not-false _ (l .1 .left)))) (λ l. legal-narrow bits (l .left)) (c .if2 .came) in
-    rw (slope-read (at-slope b), intercept-read b, width-from (bytes (at-slope b)) (intercept b .next) bits (record { within = w .before .if1 .left; byte = refl; lawful = lawful }))
+    let lawful : legal bits ≡ true = ⊎-elim (λ l. legal-full bits (eqb-true _ _ (not-false _ (l .1 .left)))) (λ l. legal-narrow bits (l .left)) (j .if2 .came) in
+    rw (slope-read (at-slope b), intercept-read b, width-from (bytes (at-slope b)) (intercept b .next) bits (record { within = w .before .if1 .left; byte = refl; lawful = lawful }), c .or-later .ensures)
 
 pub fields-read-spec : {M : Type 1} → statement M
 fields-read-spec =
@@ -120,5 +124,6 @@ fields-read-spec =
     returns-3
     shared-slice-read-bits
     returns-4
-    add-t15
+    add-t17
+    or-later-requires
     returns-5)

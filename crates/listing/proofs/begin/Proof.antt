@@ -32,7 +32,7 @@ returns c =
 
 -- the maximum has 64 bits
 bounds : (c : tie.After-opened) → let x = c .opened .given .0 .0 in x .minimum + x .gcd * x .count < 2 ^ 64
-bounds c = here-bounds _ _ (told openedMeaning (c .before .before .«open» .ensures .answer) (c .opened .given .1))
+bounds c = here-bounds _ _ _ (told openedMeaning (c .before .before .«open» .ensures .answer) (c .opened .given .1))
 
 mul-max : tie.Need-mul-max
 mul-max c = omega (arith, bounds (c .before .before))

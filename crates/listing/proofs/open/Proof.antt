@@ -19,7 +19,7 @@ enum-known-opened c = search needs
 returns-2 : tie.Need-returns-2
 returns-2 c =
     let o = c .before .before .before in
-    over-rows _ _ _ (o .before .before .before .before .if1 .left) (omega arith) _ (rw (o .opened .given .1) at (o .before .before .«open» .ensures)) (c .if2 .taken)
+    over-rows _ _ _ (o .before .before .before .before .if1 .left) (omega arith) _ _ (rw (o .opened .given .1) at (o .before .before .«open» .ensures)) (c .if2 .taken)
 
 enum-known-opened-2 : tie.Need-enum-known-opened-2
 enum-known-opened-2 c = search needs
@@ -35,7 +35,7 @@ returns-3 c =
 returns-4 : tie.Need-returns-4
 returns-4 c =
     let o = c .before .before .before in
-    kept-column _ _ _ (o .before .before .before .before .if1 .left) (omega arith) _ (rw (o .opened .given .1) at (o .before .before .«open» .ensures)) (c .if2 .left)
+    kept-column _ _ _ (o .before .before .before .before .if1 .left) (omega arith) _ _ (rw (o .opened .given .1) at (o .before .before .«open» .ensures)) (c .if2 .left)
 
 returns-5 : tie.Need-returns-5
 returns-5 c =

@@ -168,15 +168,19 @@ returns-7 c =
 cast-t27 : tie.Need-cast-t27
 cast-t27 c = search needs
 
+spelled-requires : tie.Need-spelled-requires
+spelled-requires c κs = search needs
+
 returns-8 : tie.Need-returns-8
 unfolding readHead
 returns-8 c =
-    let r = c .before .before .before in
+    let e = c .before .before in
+    let r = e .before .before in
     let q = past-count r in
     let n = at-count q in
     let p = past-gcd n in
     let g = at-gcd p in
-    rw (minimum-read (at-minimum g), gcd-read g, gcd-some p, count-read n, bounds-pass q, rows-read r, lt-ltb (rows r .value) (2 ^ 32) (omega (arith, c .before .if3 .left)))
+    rw (minimum-read (at-minimum g), gcd-read g, gcd-some p, count-read n, bounds-pass q, rows-read r, lt-ltb (rows r .value) (2 ^ 32) (omega (arith, e .if3 .left)), c .spelled .ensures)
 
 pub head-read-spec : {M : Type 1} → statement M
 head-read-spec =
@@ -203,4 +207,5 @@ head-read-spec =
     returns-6
     returns-7
     cast-t27
+    spelled-requires
     returns-8)

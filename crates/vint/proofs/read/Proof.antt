@@ -20,8 +20,8 @@ loop-holds c = reading-starts _ _
 returns : tie.Need-returns Inv-loop μ-loop
 returns c = sym (reading-ends (c .before .before .loop .inv) (c .if1 .taken))
 
-shared-slice-read-wide : tie.Need-shared-slice-read-wide Inv-loop μ-loop
-shared-slice-read-wide c = search needs
+shared-slice-read-last : tie.Need-shared-slice-read-last Inv-loop μ-loop
+shared-slice-read-last c = search needs
 
 wide-requires : tie.Need-wide-requires Inv-loop μ-loop
 wide-requires c κs = search needs
@@ -42,19 +42,27 @@ last-digit c =
 next-digit : (c : tie.Else2 Inv-loop μ-loop) → at-next c .loop .number + c .before .wide .result * at-next c .loop .scale < 2 ^ 63
 next-digit c = digit-fits (at-next c .loop .inv) _ (search needs) (c .if2 .left)
 
-mul-t15 : tie.Need-mul-t15 Inv-loop μ-loop
-mul-t15 c = omega (arith, last-digit c)
-
-add-t16 : tie.Need-add-t16 Inv-loop μ-loop
-add-t16 c = omega (arith, last-digit c)
+mul-t16 : tie.Need-mul-t16 Inv-loop μ-loop
+mul-t16 c = omega (arith, last-digit c)
 
 add-t17 : tie.Need-add-t17 Inv-loop μ-loop
-add-t17 c = search needs
+add-t17 c = omega (arith, last-digit c)
+
+add-t18 : tie.Need-add-t18 Inv-loop μ-loop
+add-t18 c = search needs
+
+add-t19 : tie.Need-add-t19 Inv-loop μ-loop
+add-t19 c = search needs
+
+spelled-requires : tie.Need-spelled-requires Inv-loop μ-loop
+spelled-requires c κs = search needs
 
 returns-2 : tie.Need-returns-2 Inv-loop μ-loop
 returns-2 c =
-    sym
-    (reading-last (at-last c .loop .inv) _ (c .before .before .before .if1 .left) (omega arith) (rw (c .before .wide .ensures)) (omega (arith, last-digit c)))
+    let k = c .before in
+    rw (c .spelled .ensures)
+    (sym
+    (reading-last (at-last k .loop .inv) _ (k .before .before .before .if1 .left) (omega arith) (omega (arith, k .before .before .shared-slice-known2 .given (at-last k .loop .pos))) (rw (k .before .wide .ensures)) (omega (arith, last-digit k))))
 
 mul-number : tie.Need-mul-number Inv-loop μ-loop
 mul-number c = omega (arith, next-digit c)
@@ -84,26 +92,42 @@ returns-3 c = sym (reading-ends (c .before .before .loop .inv) (c .if3 .taken))
 shared-slice-read-b : tie.Need-shared-slice-read-b Inv-loop μ-loop
 shared-slice-read-b c = search needs
 
-add-t25 : tie.Need-add-t25 Inv-loop μ-loop
-add-t25 c = search needs
-
-returns-4 : tie.Need-returns-4 Inv-loop μ-loop
-returns-4 c =
-    let after-loop = c .before .before .before in
-    sym (tenth-ends (after-loop .before .loop .inv) _ 0 (after-loop .loop-test .left) (c .before .before .if3 .left) (c .if4 .taken) (omega arith) (omega arith))
-
-add-t27 : tie.Need-add-t27 Inv-loop μ-loop
-add-t27 c =
-    let after-loop = c .before .before .before .before in
-    omega (arith, after-loop .before .loop .inv .small, tenth-scale (after-loop .before .loop .inv) (after-loop .loop-test .left))
-
 add-t28 : tie.Need-add-t28 Inv-loop μ-loop
 add-t28 c = search needs
 
+add-t29 : tie.Need-add-t29 Inv-loop μ-loop
+add-t29 c = search needs
+
+spelled-requires-2 : tie.Need-spelled-requires-2 Inv-loop μ-loop
+spelled-requires-2 c κs = search needs
+
+returns-4 : tie.Need-returns-4 Inv-loop μ-loop
+returns-4 c =
+    let k = c .before in
+    let after-loop = k .before .before .before in
+    rw (c .spelled2 .ensures)
+    (sym (tenth-ends (after-loop .before .loop .inv) _ 0 (after-loop .loop-test .left) (k .before .before .if3 .left) (k .if4 .taken) (omega arith) (omega arith)))
+
+add-t32 : tie.Need-add-t32 Inv-loop μ-loop
+add-t32 c =
+    let after-loop = c .before .before .before .before in
+    omega (arith, after-loop .before .loop .inv .small, tenth-scale (after-loop .before .loop .inv) (after-loop .loop-test .left))
+
+add-t33 : tie.Need-add-t33 Inv-loop μ-loop
+add-t33 c = search needs
+
+add-t34 : tie.Need-add-t34 Inv-loop μ-loop
+add-t34 c = search needs
+
+spelled-requires-3 : tie.Need-spelled-requires-3 Inv-loop μ-loop
+spelled-requires-3 c κs = search needs
+
 returns-5 : tie.Need-returns-5 Inv-loop μ-loop
 returns-5 c =
-    let after-loop = c .before .before .before .before in
-    sym (tenth-ends (after-loop .before .loop .inv) _ 1 (after-loop .loop-test .left) (c .before .before .before .if3 .left) (c .if5 .taken) (omega arith) (omega arith))
+    let k = c .before in
+    let after-loop = k .before .before .before .before in
+    rw (c .spelled3 .ensures)
+    (sym (tenth-ends (after-loop .before .loop .inv) _ 1 (after-loop .loop-test .left) (k .before .before .before .if3 .left) (k .if5 .taken) (omega arith) (omega arith)))
 
 returns-6 : tie.Need-returns-6 Inv-loop μ-loop
 returns-6 c =
@@ -118,11 +142,13 @@ read-spec =
     μ-loop
     loop-holds
     returns
-    shared-slice-read-wide
+    shared-slice-read-last
     wide-requires
-    mul-t15
-    add-t16
+    mul-t16
     add-t17
+    add-t18
+    add-t19
+    spelled-requires
     returns-2
     mul-number
     add-number
@@ -133,9 +159,13 @@ read-spec =
     loop-again
     returns-3
     shared-slice-read-b
-    add-t25
-    returns-4
-    add-t27
     add-t28
+    add-t29
+    spelled-requires-2
+    returns-4
+    add-t32
+    add-t33
+    add-t34
+    spelled-requires-3
     returns-5
     returns-6)

@@ -14,10 +14,10 @@ use Rattle.blockwise_linear.proofs.reader.check.Statement.{statement}
 use Rattle.blockwise_linear.proofs.reader.check.Tie as tie
 
 abbrev Inv-loop : tie.InvT-loop
-Inv-loop bytes c₀ c = Checking bytes c₀ c
+Inv-loop bytes c₀ spelling₀ c spelling = Checking bytes c₀ c spelling
 
 abbrev μ-loop : tie.MeasureT-loop
-μ-loop bytes c₀ c = c .left
+μ-loop bytes c₀ spelling₀ c spelling = c .left
 
 -- the turn, and the block that was read in it
 abbrev turn : tie.After-known-told Inv-loop μ-loop → tie.Then1 Inv-loop μ-loop
@@ -46,13 +46,17 @@ returns c =
     let t = c .before .before .before .before in
     sym (checking-refused (t .before .before .loop .inv) _ _ (told stepMeaning (c .before .before .before .step-read .ensures) (c .before .r .given .1)) (t .if1 .taken))
 
+or-later-requires : tie.Need-or-later-requires Inv-loop μ-loop
+or-later-requires c κs = search needs
+
 loop-less : tie.Need-loop-less Inv-loop μ-loop
-loop-less c = omega (arith, step-less _ _ _ (step-told (c .before)))
+loop-less c = omega (arith, step-less _ _ _ (step-told (c .before .before)))
 
 loop-again : tie.Need-loop-again Inv-loop μ-loop
 loop-again c =
-    let t = turn (c .before) in
-    checking-more (t .before .before .loop .inv) _ (step-told (c .before)) (t .if1 .taken)
+    let k = c .before .before in
+    let t = turn k in
+    rw (c .before .or-later .ensures) (checking-more (t .before .before .loop .inv) _ (step-told k) (t .if1 .taken))
 
 returns-2 : tie.Need-returns-2 Inv-loop μ-loop
 returns-2 c = sym (checking-ends (c .before .before .loop .inv) (c .if1 .left))
@@ -68,6 +72,7 @@ check-spec =
     enum-known-s
     enum-known-r
     returns
+    or-later-requires
     loop-less
     loop-again
     returns-2)

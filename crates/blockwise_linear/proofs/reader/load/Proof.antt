@@ -11,10 +11,11 @@ use denote.Ref.{now}
 use borrow.Author.Needs.{needs}
 use borrow.Author.Tests.{not-true, not-false, le-leb, lt-leb}
 use Rattle.format.specs.declared.Head.{Head}
+use Rattle.format.specs.declared.Spelling.{Spelling}
 use Rattle.format.specs.Outcome.{Outcome.value}
 use Rattle.format.specs.Bodies.{blockCount}
 use Rattle.blockwise_linear.specs.declared.reader.Cursor.{Cursor}
-use Rattle.blockwise_linear.specs.Reader.{lengthIn, firstCursor, blocksFrom, areaIn, areaMeaning}
+use Rattle.blockwise_linear.specs.Reader.{lengthIn, firstCursor, blocksFrom, areaIn, areaMeaning, columnOver}
 use Rattle.blockwise_linear.proofs.Footers.{column-by-area}
 use Rattle.blockwise_linear.proofs.reader.load.Statement.{statement}
 use Rattle.blockwise_linear.proofs.reader.load.Tie as tie
@@ -48,15 +49,11 @@ checked c =
     let e : tie.Else1 = c .before .before .before .before in
     ap (λ (f : Cursor). areaIn (blocksFrom (bytes e) f)) (sym (c .before .first .ensures)) ∙ sym (c .check .ensures)
 
-area-told : (c : tie.After-known-told) → areaIn (blocksFrom (bytes (past c)) (firstCursor (bytes (past c)) (head (past c) .rows))) ≡ value (c .before .n .given .0 .0)
-area-told c = checked (c .before .before .before) ∙ ap areaMeaning (c .before .n .given .1)
+abbrev area : tie.After-known-told → ℕ × Spelling
+area c = (c .before .size .given .0 .0, c .before .size .given .0 .1 .0)
 
--- the last test of the code is the rule's
-test-is : (c : tie.After-ends-within)
-    → leb (head (past (c .before)) .next + c .before .before .n .given .0 .0) (firstCursor (bytes (past (c .before))) (head (past (c .before)) .rows) .at) ≡ c .ends-within .result
-test-is c =
-    ap (λ (f : Cursor). leb (head (past (c .before)) .next + c .before .before .n .given .0 .0) (f .at)) (sym (c .before .before .before .before .before .first .ensures))
-    ∙ sym (c .ends-within .ensures)
+area-told : (c : tie.After-known-told) → areaIn (blocksFrom (bytes (past c)) (firstCursor (bytes (past c)) (head (past c) .rows))) ≡ value (area c)
+area-told c = checked (c .before .before .before) ∙ ap areaMeaning (c .before .size .given .1)
 
 footer-fits-requires : tie.Need-footer-fits-requires
 footer-fits-requires c κs = search needs
@@ -79,30 +76,26 @@ first-requires c κs = search needs
 check-requires : tie.Need-check-requires
 check-requires c κs = rw (c .first .ensures) (record { bytes = omega arith })
 
-enum-known-n : tie.Need-enum-known-n
-enum-known-n c = search needs
+enum-known-size : tie.Need-enum-known-size
+enum-known-size c = search needs
 
 enum-known-r : tie.Need-enum-known-r
 enum-known-r c = search needs
 
+loaded-requires : tie.Need-loaded-requires
+loaded-requires c κs = search needs
+
 returns-3 : tie.Need-returns-3
 returns-3 c =
-    let k = c .before .before .before in
-    let e = k .before .before in
-    rw (column-by-area _ _ _, footer-told (e .before .before), enough-told e, checked k ∙ ap areaMeaning (c .before .r .given .1))
-
-ends-within-requires : tie.Need-ends-within-requires
-ends-within-requires c κs = search needs
+    let k = c .before in
+    rw (column-by-area _ _ _, footer-told (past k), enough-told (roomy k), area-told k)
+    (c .loaded .ensures ∙ ap (λ (f : Cursor). columnOver (head (past k)) (f .at) (area k)) (k .before .before .before .before .first .ensures))
 
 returns-4 : tie.Need-returns-4
 returns-4 c =
-    let k = c .before .before in
-    rw (column-by-area _ _ _, footer-told (past k), enough-told (roomy k), area-told k, test-is (c .before) ∙ not-true _ (c .if3 .taken))
-
-returns-5 : tie.Need-returns-5
-returns-5 c =
-    let k = c .before .before in
-    rw (column-by-area _ _ _, footer-told (past k), enough-told (roomy k), area-told k, test-is (c .before) ∙ not-false _ (c .if3 .left))
+    let k = c .before .before .before in
+    let e = k .before .before in
+    rw (column-by-area _ _ _, footer-told (e .before .before), enough-told e, checked k ∙ ap areaMeaning (c .before .r .given .1))
 
 pub load-spec : {M : Type 1} → statement M
 load-spec =
@@ -115,9 +108,8 @@ load-spec =
     returns-2
     first-requires
     check-requires
-    enum-known-n
+    enum-known-size
+    loaded-requires
     enum-known-r
     returns-3
-    ends-within-requires
-    returns-4
-    returns-5)
+    returns-4)

@@ -62,8 +62,8 @@ returns c =
 block-rows-requires : tie.Need-block-rows-requires
 block-rows-requires c κs = search needs
 
-cast-t13 : tie.Need-cast-t13
-cast-t13 c = search needs
+cast-t14 : tie.Need-cast-t14
+cast-t14 c = search needs
 
 cast-packed-len : tie.Need-cast-packed-len
 cast-packed-len c = search needs
@@ -71,14 +71,14 @@ cast-packed-len c = search needs
 packed-len-requires : tie.Need-packed-len-requires
 packed-len-requires c κs = (omega (arith, c .before .block-rows .ensures), narrow (c .before .before .before))
 
-add-t18 : tie.Need-add-t18
-add-t18 c =
+add-t19 : tie.Need-add-t19
+add-t19 c =
     let p = c .before in
     let k = p .before .before .before .before in
     omega (arith, p .packed-len .ensures, p .before .before .block-rows .ensures, block-small (fields k .bits) (p .before .before .block-rows .result) (narrow k), k .before .before .before .before .before .before .before .pre .bytes)
 
-sub-t19 : tie.Need-sub-t19
-sub-t19 c = omega (arith, c .before .before .before .before .block-rows .ensures)
+sub-t20 : tie.Need-sub-t20
+sub-t20 c = omega (arith, c .before .before .before .before .block-rows .ensures)
 
 returns-2 : tie.Need-returns-2
 unfolding stepIn
@@ -99,9 +99,9 @@ step-read-spec =
     enum-known-r
     returns
     block-rows-requires
-    cast-t13
+    cast-t14
     cast-packed-len
     packed-len-requires
-    add-t18
-    sub-t19
+    add-t19
+    sub-t20
     returns-2)

@@ -67,11 +67,15 @@ returns-2 : tie.Need-returns-2
 unfolding openLinear
 returns-2 c = rw (fields-told (c .before .before .before .before), test-is (c .before) ∙ not-true _ (c .if1 .taken))
 
+or-later-requires : tie.Need-or-later-requires
+or-later-requires c κs = search needs
+
 returns-3 : tie.Need-returns-3
 unfolding openLinear
 returns-3 c =
-    let e = c .before .before in
-    rw (fields-told (e .before .before .before), test-is e ∙ not-false _ (c .before .if1 .left), e .before .packed-len .ensures)
+    let f = c .before .before in
+    let e = f .before in
+    rw (fields-told (e .before .before .before), test-is e ∙ not-false _ (f .if1 .left), e .before .packed-len .ensures, c .or-later .ensures)
 
 pub load-spec : {M : Type 1} → statement M
 load-spec =
@@ -85,4 +89,5 @@ load-spec =
     packed-len-requires
     ends-within-requires
     returns-2
+    or-later-requires
     returns-3)
