@@ -47,6 +47,7 @@ fn also(why: Refusal) -> u64 {
         Refusal::TableShort { blocks } => blocks as u64,
         Refusal::OutOfBounds { row } => row as u64,
         Refusal::ListShort { found } => found as u64,
+        Refusal::Offending { offset } => offset as u64,
         _ => 0,
     }
 }

@@ -3,12 +3,14 @@
 -- reading the footer
 pub mod Footers
 pub mod Passes
+pub mod Lasts
+-- reading rows
+pub mod Rows
 -- writing blocks
 pub mod Filled
 pub mod Blocks
 pub mod Parts
 pub mod Walks
 pub mod Body
-pub mod Rows
 -- the saving
 pub mod Exponents

@@ -20,7 +20,11 @@ use Rattle.format.specs.Varint.{firstOf}
 use Rattle.format.specs.Packing.{bytesNum, legal}
 use Rattle.format.specs.Bodies.{blockCount}
 use Rattle.format.specs.Opening.{Table, columnOf, readFields, readBlocks}
+use Rattle.format.specs.Sheets.{lastFields}
 use Rattle.blockwise_linear.specs.declared.reader.Cursor.{Cursor}
+use Rattle.blockwise_linear.specs.declared.reader.Last.{Last}
+use Rattle.blockwise_linear.specs.declared.reader.LastRead.{LastRead}
+use Rattle.blockwise_linear.specs.declared.reader.LastRead.the-variants.{Last as Found, Refused as NoLast}
 use Rattle.blockwise_linear.specs.declared.reader.Step.{Step}
 use Rattle.blockwise_linear.specs.declared.reader.StepRead.{StepRead}
 use Rattle.blockwise_linear.specs.declared.reader.StepRead.the-variants.{Step as Read, Refused as NotRead}
@@ -78,6 +82,20 @@ stepMeaning (NotRead r) = numbered r
 abbrev pub areaMeaning : AreaRead → Outcome (ℕ × Spelling)
 areaMeaning (Area n p) = value (n, p)
 areaMeaning (NoArea r) = numbered r
+
+-- the end of a footer of so many rows from an offset on: the last block's width, the offset behind its fields, and where the footer starts and ends
+abbrev pub lastFrom : (s : List ℕ) (rows start : ℕ) → Outcome Last
+lastFrom s rows start =
+    lastFields (blockCount rows) (upToLength s) 0 start >>= (λ (f : ℕ × ℕ). value (record { bits = f .0; at = f .1; start = start; end = length s - 4 }))
+
+-- the same from where the footer starts
+abbrev pub lastIn : (s : List ℕ) (rows : ℕ) → Outcome Last
+lastIn s rows = lastFrom s rows (firstCursor s rows .at)
+
+-- what reading it found
+abbrev pub lastMeaning : LastRead → Outcome Last
+lastMeaning (Found l) = value l
+lastMeaning (NoLast r) = numbered r
 
 -- a place whose area can be counted: a row takes at most eight bytes
 pub record Small (c : Cursor) : Type 0 where

@@ -14,10 +14,11 @@ ghost use Rattle.format.specs.Word.{modAdd};
 ghost use Rattle.format.specs.Packing.{bytesNum, legal, unpack};
 ghost use Rattle.format.specs.Line.{lineAt};
 ghost use Rattle.format.specs.Refusals.{openedMeaning, rowMeaning};
-ghost use Rattle.format.specs.Opening.{openBlockwise, columnIn};
+ghost use Rattle.format.specs.Opening.{openBlockwise, readFields, columnIn};
 ghost use Rattle.format.specs.Reading.{blockAt, packedOf, scaled, valueIn, valueAt};
 ghost use Rattle.format.specs.Runs.{readRun, filledTo};
-ghost use Rattle.blockwise_linear.specs.Reader.{stepMeaning, areaMeaning, stepIn, blocksFrom, areaIn, numbersIn, columnOver, firstCursor, Small, Good, Fillable, Readable, numbersStart};
+ghost use Rattle.line.specs.Meaning.{fieldsMeaning};
+ghost use Rattle.blockwise_linear.specs.Reader.{stepMeaning, areaMeaning, lastMeaning, lastIn, upToLength, stepIn, blocksFrom, areaIn, numbersIn, columnOver, firstCursor, Small, Good, Fillable, Readable, numbersStart};
 use format::Block;
 use format::BlockRow;
 use format::Codec;
@@ -244,6 +245,55 @@ pub fn fill(bytes: &[u8], rows: u32, table: &mut [u64])
     }
 }
 
+// The end of a footer: the width of the last block, 0 where there is none, the offset behind its fields, and where the footer
+// starts and ends.
+pub struct Last {
+    pub bits: u8,
+    pub at: usize,
+    pub start: usize,
+    pub end: usize,
+}
+
+// What reading a footer's end finds.
+pub enum LastRead {
+    Last(Last),
+    Refused(Refusal),
+}
+
+// The fields of a block, read inside the footer's own bytes.
+fn fields_at(bytes: &[u8], at: usize) -> FieldsRead
+    ensures { λ r. ⌜ fieldsMeaning r ≡ readFields (upToLength (now (bytes .entry))) at ⌝ }
+{
+    let end = footer_end(bytes);
+    line::fields_read(&bytes[..end], at)
+}
+
+// The end of the footer of a column of so many rows.
+pub fn footer_last(bytes: &[u8], rows: u32) -> LastRead
+    ensures { λ r. ⌜ lastMeaning r ≡ lastIn (now (bytes .entry)) rows ⌝ }
+{
+    let end = footer_end(bytes);
+    let start = first(bytes, rows).at;
+    let mut left = (rows as usize + 511) / 512;
+    let mut bits: u8 = 0;
+    let mut at = start;
+    while 0 < left {
+        let fields = match fields_at(bytes, at) {
+            FieldsRead::Fields(f) => f,
+            FieldsRead::Refused(r) => return LastRead::Refused(r),
+        };
+        bits = fields.bits;
+        at = fields.next;
+        left -= 1;
+    }
+    LastRead::Last(Last {
+        bits,
+        at,
+        start,
+        end,
+    })
+}
+
 // Number `i` of a table, 0 past its end.
 fn number_at(table: &[u64], i: usize) -> u64
     ensures { λ r. ⌜ r ≡ getD (now (table .entry)) i 0 ⌝ }
@@ -363,5 +413,12 @@ pub fn get_range(
     ensures { λ n. ⌜ filledTo n (first .0) (now (out .exit)) ≡ readRun (valueAt column block (now (bytes .entry))) (first .0) (length (now (out .entry))) ⌝ }
 {
     let start = numbers_start(column, block);
-    line_rows(&bytes[start..], block.line, block.bits as u8, column, first.0, out)
+    line_rows(
+        &bytes[start..],
+        block.line,
+        block.bits as u8,
+        column,
+        first.0,
+        out,
+    )
 }

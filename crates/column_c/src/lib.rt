@@ -47,6 +47,8 @@ fn also(refusal: Refusal) -> u64
         Refusal::OutOfBounds { row } => row as u64,
         Refusal::ListShort { found } => found as u64,
         Refusal::OverLimit => 0,
+        Refusal::Offending { offset } => offset as u64,
+        Refusal::UnknownSheet => 0,
     }
 }
 

@@ -16,14 +16,15 @@ use Rattle.format.specs.Line.{through, lineAt, trained, residuals}
 use Rattle.format.specs.Saving.{saving}
 use Rattle.format.specs.Writing.{written}
 use Rattle.format.specs.Opening.{Loaded, opened}
+use Rattle.format.specs.Sheets.{openedUnder}
 use Rattle.format.specs.Reading.{rowAt}
 use Rattle.format.specs.Lookup.{lookedUp, within}
 use Rattle.format.specs.Listing.{listing, openedHere}
 use Rattle.format.specs.Comparing.{comparison}
 
 -- a number's spelling; bytes and the offset of a field; its width; what a gcd saves over so many rows; the line of four values; codecs, values and room; bytes and blocks; the same, for the spelling;
--- bytes, blocks and a row; a made-up column, table, bytes and a row; bytes, low, high, first, end and room; codecs, values and a row of what was written; bytes in a program; the listing of bytes;
--- the comparison of two
+-- a sheet, bytes and blocks; bytes, blocks and a row; a made-up column, table, bytes and a row; bytes, low, high, first, end and room; codecs, values and a row of what was written; bytes in a program;
+-- the listing of bytes; the comparison of two
 pub data Asked : Type 0 where
   spelling : ℕ → Asked
   field : List ℕ → ℕ → Asked
@@ -33,6 +34,7 @@ pub data Asked : Type 0 where
   writing : List ℕ → List ℕ → ℕ → Asked
   opening : List ℕ → ℕ → Asked
   spelled : List ℕ → ℕ → Asked
+  sheet : ℕ → List ℕ → ℕ → Asked
   reading : List ℕ → ℕ → ℕ → Asked
   made : Column → List ℕ → List ℕ → ℕ → Asked
   looking : List ℕ → ℕ → ℕ → ℕ → ℕ → ℕ → Asked
@@ -77,6 +79,7 @@ answer (training vs) = value (lineOf vs)
 answer (writing cs vs room) = written vs cs room
 answer (opening s room) = opened s room >>= (λ (o : Loaded). value (numbersOf o))
 answer (spelled s room) = opened s room >>= (λ (o : Loaded). value (longerAt (o .spelling)))
+answer (sheet n s room) = openedUnder n s room >>= (λ (o : Loaded). value (o .column .rows ∷ []))
 answer (reading s room r) = opened s room >>= (λ (o : Loaded). alone (rowAt (o .column) (o .table) s r))
 answer (made col t s r) = alone (rowAt col t s r)
 answer (looking s low high first end room) = opened s 1 >>= (λ (o : Loaded). lookedUp (rowAt (o .column) (o .table) s) (o .column .rows) (within low high) first end room)

@@ -1,14 +1,15 @@
 -- Bitpacked's round trip (`bitpacked-round`), and that its size in the choice is the length of what it writes (`bitpacked-size`).
 -- Assumes nothing.
-use mathlib.Core.Path.{_≡_, refl, ap, _∙_}
-use mathlib.Core.Option.{some}
-use mathlib.Core.List.{List, [], _∷_, _++_}
-use Prim.Native.Nat.{ℕ, _+_, _*_, _/_, _^_, _<_}
+use mathlib.Core.Path.{_≡_, refl, sym, ap, _∙_}
+use mathlib.Core.Option.{none, some}
+use mathlib.Core.List.{List, [], _∷_, _++_, append-nil}
+use Prim.Native.Nat.{ℕ, _+_, _-_, _*_, _/_, _%_, _^_, _<_}
 use native.Mathlib.Nat.{add-zero}
 use native.Mathlib.Omega.{arith}
 use lib.ListN.{length, getD, length-append}
 use borrow.Author.Tests.{le-leb}
 use Rattle.format.specs.declared.Codec.the-variants.{Bitpacked}
+use Rattle.format.specs.declared.Spelling.the-variants.{Shortest}
 use Rattle.format.specs.Outcome.{Outcome.value}
 use Rattle.format.specs.Word.{bytesFor, AllBelow}
 use Rattle.format.specs.Packing.{width, packed}
@@ -16,6 +17,7 @@ use Rattle.format.specs.Stats.{statsOf}
 use Rattle.format.specs.Bodies.{body, bitpacked, columnBy}
 use Rattle.format.specs.Writing.{sizeOf}
 use Rattle.format.specs.Opening.{opened}
+use Rattle.format.specs.Sheets.{overfull, ending, strict}
 use Rattle.format.specs.Reading.{packedOf, valueIn, placeIn, blockAt}
 use Rattle.format.specs.Demands.{readsAs}
 use Rattle.format.proofs.Packing.{round-trip-all, length-packed}
@@ -23,6 +25,7 @@ use Rattle.format.proofs.Widths.{width-fits}
 use Rattle.format.proofs.Statistics.{multiples, multiples-length, multiple-at, multiple-back, multiple-within, count-below}
 use Rattle.format.proofs.Heads.{headBytes, writtenHead, countIn, behind-head}
 use Rattle.format.proofs.Openings.{bitpackedOf, opens-bitpacked}
+use Rattle.format.proofs.Sheets.{between-none, overfull-packed, clean-column}
 use Rattle.format.proofs.RoundTrip.{RoundTrips, begins}
 
 module _ (vs : List ℕ) where
@@ -57,6 +60,17 @@ module _ (vs : List ℕ) where
     column-opens : (room : ℕ) → opened column room ≡ value (bitpackedOf (writtenHead vs))
     column-opens room = opens-bitpacked column (writtenHead vs) room (record { begun = begins 0 vs area (omega arith) each few; area = omega (arith, column-length) })
 
+    -- nothing offends sheet 2
+    column-passes : strict column (bitpackedOf (writtenHead vs) .column) Shortest ≡ value tt
+    unfolding strict ending
+    column-passes =
+        let start = 1 + length (headBytes vs) in
+        let full : overfull column (start + bytesFor (bits * length ns) - 1) (bits * length ns % 8) ≡ none =
+        overfull-packed column start bits ns [] (behind-head 0 vs area ∙ sym (append-nil area)) in
+        clean-column column (bitpackedOf (writtenHead vs) .column) _
+        (ap (λ (n : ℕ). overfull column (start + bytesFor (bits * n) - 1) (bits * n % 8)) (sym (multiples-length vs)) ∙ full)
+        (between-none (start + size) (length column) (omega (arith, column-length))) refl
+
     multiple-fits : (r : ℕ) → r < length vs → getD ns r 0 < 2 ^ bits
     multiple-fits r h = rw (multiple-at vs r h) (width-fits (countIn vs) _ (count-below vs each) (multiple-within vs r h))
 
@@ -76,6 +90,7 @@ bitpacked-round vs each few applies = record {
   opens = λ room enough. rw (column-is vs) (column-opens vs each few room);
   count = refl;
   shortest = refl;
+  passes = rw (column-is vs) (column-passes vs each few);
   values = λ r h. rw (column-is vs) (value-back vs each few r h);
 }
 

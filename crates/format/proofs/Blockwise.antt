@@ -1,11 +1,12 @@
 -- Blockwise's round trip (`blockwise-round`), what its column opens to (`blockwise-opens`), and each block's numbers (`blockwise-table`).
 -- Assumes nothing.
-use mathlib.Core.Path.{_≡_, refl, sym, ap, _∙_}
+use mathlib.Core.Path.{_≡_, refl, sym, ap, ap₂, _∙_}
+use mathlib.Core.Option.{none}
 use mathlib.Core.List.{List, [], _∷_, _++_, append-assoc, append-nil}
-use Prim.Native.Nat.{ℕ, _+_, _-_, _*_, _/_, _%_, _^_, _≤_, _<_}
+use Prim.Native.Nat.{ℕ, zero, suc, _+_, _-_, _*_, _/_, _%_, _^_, _≤_, _<_}
 use native.Mathlib.Nat.{zero-add, lt-of-le-of-lt}
 use native.Mathlib.Omega.{arith}
-use lib.ListN.{length, take, drop, getD, length-append}
+use lib.ListN.{length, take, drop, getD, length-append, length-take, length-drop}
 use lib.Seq.{drop-append-seam, take-at}
 use borrow.Author.Tests.{le-leb}
 use Rattle.format.specs.declared.Codec.the-variants.{Blockwise}
@@ -18,12 +19,15 @@ use Rattle.format.specs.Packing.{unpack, bytesNum, numBytes}
 use Rattle.format.specs.Line.{lineAt, trained}
 use Rattle.format.specs.Bodies.{body, blockwise, blocks, blocksIn, blockCount, blockWidth, blockArea, blockEntry, joined, footer, columnBy}
 use Rattle.format.specs.Opening.{Loaded, columnOf, Table, readBlocks, opened}
+use Rattle.format.specs.Sheets.{between, overfull, lastFields, ending, strict}
 use Rattle.format.specs.Reading.{placeIn, packedOf, valueIn, blockAt}
 use Rattle.format.specs.Demands.{readsAs}
 use Rattle.format.proofs.Gathering.{length-numBytes, bytesNum-numBytes}
 use Rattle.format.proofs.Statistics.{multiples, multiples-length, multiple-at, multiple-back, multiple-within, count-below}
-use Rattle.format.proofs.Heads.{headBytes, writtenHead}
+use Rattle.format.proofs.Heads.{headBytes, writtenHead, countIn}
 use Rattle.format.proofs.Openings.{Begun, blockwiseOf, footerEnd, opens-blockwise}
+use Rattle.format.proofs.Sheets.{between-none, clean-column}
+use Rattle.format.proofs.LastBlocks.{lastWidth, last-width, read-last, last-bits, last-clean}
 use Rattle.format.proofs.RoundTrip.{RoundTrips, begins}
 use Rattle.format.proofs.WrittenBlocks.{length-blocks, joined-most, block-back, entry-most, numbersFrom, read-blocks, BlockAt, blockOf, laterOf, parted, row-inside-block, row-of-block, table-block, area-block}
 
@@ -50,6 +54,22 @@ opens-with s front foot h room t begun e small enough read area =
       blocks = rw (end, told, cut, from) read;
       area = rw (end, told, from) area;
     })
+
+-- what is known of its end
+ends-with : (s front foot : List ℕ) (count rows bits at : ℕ) → s ≡ (front ++ foot) ++ numBytes 4 (length foot) → length foot < 2 ^ 32
+    → lastFields (blockCount rows) (front ++ foot) 0 (length front) ≡ value (bits, at)
+    → ending Blockwise count rows s ≡ value (record { bits = bits; resumes = length front; later = between at (length (front ++ foot)) })
+unfolding ending
+ends-with s front foot count rows bits at e small read =
+    let whole = front ++ foot in
+    let four = numBytes 4 (length foot) in
+    let long : length whole ≡ length front + length foot = length-append front foot in
+    let all : length s ≡ length whole + 4 = ap length e ∙ length-append whole four ∙ ap (λ (n : ℕ). length whole + n) (length-numBytes 4 (length foot)) in
+    let end : length s - 4 ≡ length whole = omega arith in
+    let told : bytesNum (drop (length whole) s) ≡ length foot = rw (e, drop-append-seam whole four) (bytesNum-numBytes 4 (length foot) (omega arith)) in
+    let cut : take (length whole) s ≡ whole = rw e (take-at whole four (length whole) refl) in
+    let from : length whole - length foot ≡ length front = omega arith in
+    rw (end, told, cut, from, read)
 
 -- a row whose block stands in the table reads as the multiple that line and packed number make
 block-value : (h : Head) (at size : ℕ) (t s : List ℕ) (r : ℕ) (l : Line) (w start multiple : ℕ) → BlockAt t (r / 512) l w start
@@ -111,6 +131,41 @@ module _ (vs : List ℕ) where
         opens-with column front foot (writtenHead vs) room _ (begins 2 vs (area ++ (foot ++ numBytes 4 (length foot))) (omega arith) each few)
         bytes (foot-short few) enough (foot-read front) (omega (arith, length-append (headBytes vs) area))
 
+    -- the areas leave nothing in their last byte
+    area-clean : (k : ℕ) (more : List ℕ) → blockCount (length ns) ≡ k
+        → overfull (2 ∷ (headBytes vs ++ (area ++ more))) (1 + length (headBytes vs) + length area - 1) (lastWidth 0 k ns * length vs % 8) ≡ none
+    unfolding lastWidth blocksIn
+    area-clean zero more nothing =
+        let bits : 0 * length vs % 8 ≡ 0 = omega arith in
+        rw bits
+    area-clean (suc j) more many =
+        let block = blockOf j ns in
+        let w = blockWidth block in
+        let rows : length ns ≡ 512 * j + length block = omega (arith, length-take 512 (drop (512 * j) ns), length-drop (512 * j) ns) in
+        let bits : lastWidth 0 (suc j) ns * length vs % 8 ≡ w * length block % 8 =
+        ap₂ (λ (x n : ℕ). x * n % 8) (last-width 0 j ns) (sym (multiples-length vs)) ∙ last-bits w j (length block) (length ns) rows in
+        let none-later : blockCount (length ns) - j - 1 ≡ 0 = omega arith in
+        let last : laterOf j ns ≡ [] = ap (λ (n : ℕ). blocksIn n (drop 512 (drop (512 * j) ns))) none-later in
+        let split : parts ≡ blocksIn j ns ++ (block ∷ []) = parted j ns (omega arith) ∙ ap (λ (l : List (List ℕ)). blocksIn j ns ++ (block ∷ l)) last in
+        let place : (n : ℕ) → length (2 ∷ headBytes vs) + n - 1 ≡ 1 + length (headBytes vs) + n - 1 = λ n. omega arith in
+        rw split (rw (← place (length (joined blockArea (blocksIn j ns ++ (block ∷ []))))) (last-clean (2 ∷ headBytes vs) more (blocksIn j ns) block _ bits))
+
+    -- nothing offends sheet 2
+    column-passes : strict column (opens .column) Shortest ≡ value tt
+    unfolding strict blocks
+    column-passes =
+        let front : List ℕ = 2 ∷ (headBytes vs ++ area) in
+        let k = blockCount (length ns) in
+        let bytes : column ≡ (front ++ foot) ++ numBytes 4 (length foot) = simp append-assoc in
+        let ahead : length front ≡ 1 + length (headBytes vs) + length area = omega (arith, length-append (headBytes vs) area) in
+        let read : lastFields (blockCount (length vs)) (front ++ foot) 0 (length front) ≡ value (lastWidth 0 k ns, length front + length foot) =
+        ap (λ (n : ℕ). lastFields (blockCount n) (front ++ foot) 0 (length front)) (sym (multiples-length vs))
+        ∙ read-last k ns (front ++ foot) 0 (length front) [] (drop-append-seam front foot ∙ sym (append-nil foot)) in
+        rw (ends-with column front foot (countIn vs) (length vs) _ _ bytes (foot-short few) read)
+        (clean-column column (opens .column) _ (area-clean k (foot ++ numBytes 4 (length foot)) refl)
+        (between-none (1 + length (headBytes vs) + length area) (length front) (omega (arith, ahead)))
+        (between-none (length front + length foot) (length (front ++ foot)) (omega (arith, length-append front foot))))
+
     multiple-below : (r : ℕ) → r < length vs → getD ns r 0 < 2 ^ 64
     multiple-below r h = rw (multiple-at vs r h) (lt-of-le-of-lt (multiple-within vs r h) (count-below vs each))
 
@@ -161,5 +216,6 @@ blockwise-round vs each few applies = record {
   opens = λ room enough. blockwise-opens vs room each few enough;
   count = refl;
   shortest = refl;
+  passes = rw (column-is vs) (column-passes vs each few);
   values = λ r h. rw (column-is vs) (value-back vs each few r h);
 }

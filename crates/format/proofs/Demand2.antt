@@ -1,6 +1,7 @@
 -- Demand 2: what was written opens and gives back what was written.
 --     demand2             the demand
 --     written-shortest    what was written opens with the shortest spellings
+--     written-passes      what was written passes both sheets
 --     found-rows          what a lookup in the column finds
 -- Assumes nothing.
 use mathlib.Core.Path.{_≡_, sym, ap, _∙_}
@@ -9,12 +10,14 @@ use Prim.Native.Nat.{ℕ, zero, suc, _-_, _*_, _/_, _^_, _≤_, min}
 use native.Mathlib.Omega.{arith}
 use lib.Dec.{leb}
 use lib.ListN.{length}
+use Rattle.format.specs.declared.Spelling.{Spelling}
 use Rattle.format.specs.declared.Spelling.the-variants.{Shortest}
 use Rattle.format.specs.Outcome.{Outcome.value, _>>_, demand}
 use Rattle.format.specs.Word.{AllBelow}
-use Rattle.format.specs.Bodies.{blockCount}
+use Rattle.format.specs.Bodies.{blockCount, columnBy}
 use Rattle.format.specs.Writing.{written}
 use Rattle.format.specs.Opening.{Loaded, opened}
+use Rattle.format.specs.Sheets.{strict, openedUnder}
 use Rattle.format.specs.Lookup.{lookedUp, within}
 use Rattle.format.specs.Demands.{Returns, Accepts, Demand2, GivesBack, answered}
 use Rattle.format.proofs.Outcomes.{value-same}
@@ -48,6 +51,23 @@ written-shortest vs cs bytes table room each e enough o opens =
     let back = any-codec (w .codec) (w .known) vs each (w .few) (w .applies) in
     let there : opened bytes (length table / 4) ≡ value (back .loaded) = ap (λ (s : List ℕ). opened s (length table / 4)) (w .is) ∙ gives-back back table enough .0 in
     ap (λ (l : Loaded). l .spelling) (value-same (sym opens ∙ there)) ∙ back .shortest
+
+-- and it passes both sheets
+pub written-passes : (vs cs bytes table : List ℕ) (room : ℕ) → AllBelow (2 ^ 64) vs → written vs cs room ≡ value bytes → 4 * blockCount (length vs) ≤ length table
+    → (o : Loaded) → opened bytes (length table / 4) ≡ value o
+    → (openedUnder 1 bytes (length table / 4) ≡ value o) × (openedUnder 2 bytes (length table / 4) ≡ value o)
+unfolding openedUnder
+written-passes vs cs bytes table room each e enough o opens =
+    let w = written-as vs cs bytes room e in
+    let back = any-codec (w .codec) (w .known) vs each (w .few) (w .applies) in
+    let there : opened bytes (length table / 4) ≡ value (back .loaded) = ap (λ (s : List ℕ). opened s (length table / 4)) (w .is) ∙ gives-back back table enough .0 in
+    let same : o ≡ back .loaded = value-same (sym opens ∙ there) in
+    let passes : strict bytes (o .column) (o .spelling) ≡ value tt =
+    ap (λ (s : List ℕ). strict s (o .column) (o .spelling)) (w .is)
+    ∙ ap (λ (l : Loaded). strict (columnBy (w .codec) vs) (l .column) (l .spelling)) same
+    ∙ ap (λ (p : Spelling). strict (columnBy (w .codec) vs) (back .loaded .column) p) (back .shortest)
+    ∙ back .passes in
+    (opens, rw (opens, passes))
 
 -- whatever can be written is written wherever there is room
 accepts : Accepts

@@ -28,6 +28,7 @@ pub mod Elsewhere
 pub mod Rows
 pub mod Runs
 pub mod Lookups
+pub mod Sheets
 -- columns of other kinds
 pub mod Mappings
 pub mod FloatOrder
@@ -43,6 +44,7 @@ pub mod Bitpacked
 pub mod Linear
 pub mod WrittenBlocks
 pub mod BlockBytes
+pub mod LastBlocks
 pub mod Blockwise
 pub mod WrittenBytes
 -- the demands, and lengths

@@ -3,11 +3,11 @@
 --     linear-round                 what is written opens and comes back
 --     linear-size                  the size in the choice is the length of what is written
 -- Assumes nothing.
-use mathlib.Core.Path.{_≡_, refl, ap, _∙_}
+use mathlib.Core.Path.{_≡_, refl, sym, ap, _∙_}
 use mathlib.Core.Bool.{true}
-use mathlib.Core.Option.{some}
-use mathlib.Core.List.{List, [], _∷_, _++_}
-use Prim.Native.Nat.{ℕ, _+_, _-_, _*_, _/_, _^_, _≤_, _<_}
+use mathlib.Core.Option.{none, some}
+use mathlib.Core.List.{List, [], _∷_, _++_, append-nil}
+use Prim.Native.Nat.{ℕ, _+_, _-_, _*_, _/_, _%_, _^_, _≤_, _<_}
 use native.Mathlib.Nat.{add-zero, mul-comm}
 use native.Mathlib.Omega.{arith}
 use lib.ListN.{length, take, drop, getD, length-append, length-map}
@@ -23,6 +23,7 @@ use Rattle.format.specs.Line.{lineAt, residuals, spellLine}
 use Rattle.format.specs.Bodies.{body, linear, half, deviations, firstLine, linearLine, linearWidth, columnBy}
 use Rattle.format.specs.Writing.{sizeOf}
 use Rattle.format.specs.Opening.{opened}
+use Rattle.format.specs.Sheets.{overfull, ending, strict}
 use Rattle.format.specs.Reading.{packedOf, valueIn, placeIn, blockAt}
 use Rattle.format.specs.Demands.{readsAs}
 use Rattle.format.proofs.Lists.{map-at, drop-past}
@@ -34,6 +35,7 @@ use Rattle.format.proofs.Lines.{line-below, restored, residual-lowered,
 use Rattle.format.proofs.LineFields.{read-fields}
 use Rattle.format.proofs.Heads.{headBytes, writtenHead, countIn, behind-head}
 use Rattle.format.proofs.Openings.{linearOf, opens-linear}
+use Rattle.format.proofs.Sheets.{between-none, overfull-packed, clean-column}
 use Rattle.format.proofs.RoundTrip.{RoundTrips, begins}
 
 -- ---- the lowered line
@@ -132,6 +134,16 @@ module _ (vs : List ℕ) where
       area = omega (arith, column-length);
     })
 
+    -- nothing offends sheet 2
+    column-passes : strict column (linearOf (writtenHead vs) fields .column) Shortest ≡ value tt
+    unfolding strict ending
+    column-passes =
+        let full : overfull column (start + bytesFor (bits * length left) - 1) (bits * length left % 8) ≡ none =
+        overfull-packed column start bits left [] (behind-line ∙ sym (append-nil area)) in
+        clean-column column (linearOf (writtenHead vs) fields .column) _
+        (ap (λ (n : ℕ). overfull column (start + bytesFor (bits * n) - 1) (bits * n % 8)) (sym (residuals-length (linearLine vs) vs)) ∙ full)
+        (between-none (start + size) (length column) (omega (arith, column-length))) refl
+
     packed-back : (r : ℕ) → r < length vs → packedOf (linearOf (writtenHead vs) fields .column) (blockAt [] (r / 512)) column r ≡ modSub (getD vs r 0) (lineAt (linearLine vs) r)
     unfolding packedOf placeIn
     packed-back r h =
@@ -157,6 +169,7 @@ linear-round vs each few applies = record {
   opens = λ room enough. rw (column-is vs) (column-opens vs each few room);
   count = refl;
   shortest = refl;
+  passes = rw (column-is vs) (column-passes vs each few);
   values = λ r h. rw (column-is vs) (value-back vs each few r h);
 }
 

@@ -13,6 +13,7 @@ use Rattle.format.specs.Outcome.{Outcome.value}
 use Rattle.format.specs.Word.{AllBelow}
 use Rattle.format.specs.Bodies.{columnBy, blockCount}
 use Rattle.format.specs.Opening.{Loaded, opened}
+use Rattle.format.specs.Sheets.{strict}
 use Rattle.format.specs.Reading.{packedOf, valueIn, blockAt}
 use Rattle.format.specs.Lookup.{lookedUp, within}
 use Rattle.format.specs.Demands.{Applies, GivesBack, answered, readsAs}
@@ -22,12 +23,13 @@ use Rattle.format.proofs.Laid.{opened-laid}
 use Rattle.format.proofs.Rows.{answer-is}
 use Rattle.format.proofs.Lookups.{looked-agree}
 
--- what a codec writes opens wherever the table has room, its numbers are spelled as short as can be, and each row's packed number makes its value
+-- what a codec writes opens wherever the table has room, its numbers are spelled as short as can be, it has no offending byte, and each row's packed number makes its value
 pub record Restores (codec : ℕ) (vs : List ℕ) : Type 0 where
   pub loaded : Loaded
   pub opens : (room : ℕ) → blockCount (length vs) ≤ room → opened (columnBy codec vs) room ≡ value loaded
   pub count : loaded .column .rows ≡ length vs
   pub shortest : loaded .spelling ≡ Shortest
+  pub passes : strict (columnBy codec vs) (loaded .column) Shortest ≡ value tt
   pub values : (r : ℕ) → r < length vs
       → valueIn (loaded .column .codec) (loaded .column) (blockAt (loaded .table) (r / 512)) r (packedOf (loaded .column) (blockAt (loaded .table) (r / 512)) (columnBy codec vs) r) ≡ readsAs vs r
 

@@ -23,6 +23,8 @@ pub enum Refusal {
     OutOfBounds { row: u32 },
     ListShort { found: usize },
     OverLimit,
+    Offending { offset: usize },
+    UnknownSheet,
 }
 
 impl Refusal {
@@ -47,6 +49,8 @@ impl Refusal {
             Refusal::OutOfBounds { row: _ } => 14,
             Refusal::ListShort { found: _ } => 15,
             Refusal::OverLimit => 16,
+            Refusal::Offending { offset: _ } => 17,
+            Refusal::UnknownSheet => 18,
         }
     }
 }

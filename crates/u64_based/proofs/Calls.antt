@@ -1,7 +1,7 @@
 -- The demands, of the calls' own answers: from the contracts of `serialize`, `open`, `row` and `lookup`, and the theorems of `format`.
 --     Opens, opens                       what an answer of `open` that is a column comes from
 --     reads, written-of, front-of        what a call left is what was found
---     own-rows                           an opened column answers its own rows with a value or 14: never 12, never 13
+--     own-rows, own-fits                 an opened column answers its own rows with a value or 14: never 12, never 13; it fits together with its own bytes and table
 --     Returned, calls-return             demand 2: what was written opens, and `row` and `lookup` give the values back
 --     Told, calls-tell                   demand 3: what `row` answers depends on its row's own bits, and tells every change of them
 -- Assumes nothing.
@@ -9,9 +9,11 @@ use Prim.Native.Nat.{ℕ, _+_, _*_, _/_, _^_, _≤_, _<_}
 use mathlib.Core.Path.{_≡_, refl, sym, ap, _∙_, subst}
 use mathlib.Core.Logic.{_⊎_, inl, inr, ⊎-elim}
 use mathlib.Core.List.{List, [], _∷_}
+use mathlib.Core.Bool.{Bool, true, false}
 use native.Mathlib.Omega.{arith}
 use lib.ListN.{length, take, drop, getD}
 use lib.Seq.{sets, sets-eq, take-at}
+use borrow.Author.Tests.{lt-ltb}
 use Rattle.format.specs.declared.Column.{Column}
 use Rattle.format.specs.declared.Found.{Found}
 use Rattle.format.specs.declared.Opened.{Opened}
@@ -28,7 +30,7 @@ use Rattle.format.specs.Refusals.{rowMeaning}
 use Rattle.format.specs.Bodies.{blockCount}
 use Rattle.format.specs.Writing.{written}
 use Rattle.format.specs.Opening.{Loaded, opened}
-use Rattle.format.specs.Reading.{rowAt}
+use Rattle.format.specs.Reading.{blockAt, fits, rowIn, rowAt}
 use Rattle.format.specs.Lookup.{lookedUp, within}
 use Rattle.format.specs.Demands.{filledBy, answered, readsAs, GivesBack, Alike, SameBits, Differ, RowsTell}
 use Rattle.format.proofs.Answers.{row-injective, opened-injective}
@@ -71,6 +73,28 @@ own-rows s table after c p opened-as r h a e =
     (λ v. inl (v .0, e ∙ reads (o .1) r ∙ v .1))
     (λ f. inr (row-injective a (NotRead (OutOfBounds r)) (e ∙ reads (o .1) r ∙ f)))
     (own-row s table (o .0) (o .1 .found) r known)
+
+-- where the test of fitting together fails, a row is refused 13
+unfit-row : (c : Column) (table s : List ℕ) (r : ℕ) → r < c .rows → fits c (length table / 4) (blockAt table (r / 512)) s r ≡ false → rowAt c table s r ≡ refusal 13 []
+unfolding rowIn
+unfit-row c table s r h e = rw (lt-ltb r (c .rows) h, e)
+
+-- an opened column, read with the very bytes and table of its opening, fits together with them at every row: 13 is never met
+pub own-fits : (s table after : List ℕ) (c : Column) (p : Spelling) → OpenedAs (opened s (length table / 4)) (OpenedColumn c p) table after
+    → (r : ℕ) → r < c .rows → fits c (length after / 4) (blockAt after (r / 512)) s r ≡ true
+own-fits s table after c p opened-as r h = by-test (fits c (length after / 4) (blockAt after (r / 512)) s r) refl (own-row s table (o .0) (o .1 .found) r (rw (o .1 .column) h))
+  where
+    o : (l : Loaded) × Opens s table after c p l
+    o = opens s table after c p opened-as
+
+    by-test : (t : Bool) → fits c (length after / 4) (blockAt after (r / 512)) s r ≡ t
+        → ((v : ℕ) × (answered (o .0) table s r ≡ value v)) ⊎ (answered (o .0) table s r ≡ refusal 14 (r ∷ [])) → t ≡ true
+    by-test true e answer = refl
+    by-test false e (inl v) = absurd (not-value (sym (unfit-row c after s r h e) ∙ reads (o .1) r ∙ v .1))
+    by-test false e (inr f) =
+        let two : _≡_ {A = Outcome ℕ} (refusal 13 []) (refusal 14 (r ∷ [])) = sym (unfit-row c after s r h e) ∙ reads (o .1) r ∙ f in
+        let z : _≡_ {A = ℕ} 13 14 = cc in
+        absurd (omega arith)
 
 -- ---- demand 2
 

@@ -35,7 +35,7 @@ returns-2 : tie.Need-returns-2
 returns-2 c = search needs
 
 returns-3 : tie.Need-returns-3
-returns-3 c = search needs
+returns-3 c = rw (c .before .before .before .left2 .given .1, c .enum-told2 .given .1)
 
 returns-4 : tie.Need-returns-4
 returns-4 c = rw (c .before .before .before .before .before .before .left2 .given .1, c .before .before .before .right2 .given .1, c .before .number .ensures, c .number2 .ensures)
