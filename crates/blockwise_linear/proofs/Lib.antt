@@ -12,5 +12,3 @@ pub mod Blocks
 pub mod Parts
 pub mod Walks
 pub mod Body
--- the saving
-pub mod Exponents

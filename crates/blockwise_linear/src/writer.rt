@@ -14,7 +14,6 @@ ghost use Rattle.format.specs.Writing.{sizeOf};
 ghost use Rattle.format.specs.Typed.{storedAs};
 ghost use Rattle.stats.specs.Asked.{Sound, Describes};
 ghost use Rattle.blockwise_linear.specs.Writer.{normals, partOf, Above, Part, Fitted, BlockTakes, Room, Places, Placed, areas, entries, Takes, FewBytes};
-use crate::saving::saving_of;
 use format::ColumnStats;
 use format::Kind;
 use format::Line;
@@ -272,7 +271,7 @@ pub fn estimate(kind: Kind, values: &[u64], stats: ColumnStats) -> u64
 {
     let sizes = measure(kind, values, 0, 1);
     let whole = body_len(stats, sizes) as u64;
-    let less = saving_of(stats.gcd, stats.rows);
+    let less = float::saving::saving_of(stats.gcd, stats.rows);
     if whole < less { 0 } else { whole - less }
 }
 

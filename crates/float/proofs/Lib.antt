@@ -2,3 +2,4 @@
 pub mod Values
 pub mod Marks
 pub mod Rounded
+pub mod Searching

@@ -1,4 +1,6 @@
-// A 64-bit number as f32, which the language casts to only where nothing is lost. Each function rounds once.
+// What f32 makes of 64-bit numbers: a number as f32, which the language casts to only where nothing is lost, and the saving of a gcd. Each function rounds once.
+pub mod saving;
+
 ghost use mathlib.Core.Path.{_≡_};
 ghost use Prim.Native.Nat.{_<_, _*_, _^_};
 ghost use lib.IntN.{pos};
@@ -20,9 +22,9 @@ fn of_upper_halves(n: u64) -> f32
     ((n / 0x100_0000) as f32) * 1099511627776.0 + ((n % 0x100_0000) as f32) * 65536.0
 }
 
-// Internal: Rust's `n as f32`, the f32 nearest to n, a tie to the even one. Of a number of more than 48 bits the upper 48 are kept; if the
+// Rust's `n as f32`, the f32 nearest to n, a tie to the even one. Of a number of more than 48 bits the upper 48 are kept; if the
 // others are not all 0 the last kept is set, so that no tie arises where there is none.
-pub fn nearest(n: u64) -> f32
+pub(crate) fn nearest(n: u64) -> f32
     ensures { λ r. ⌜ r ≡ ofInt binary32 (pos n) ⌝ }
 {
     if n < 0x1_0000_0000_0000 {

@@ -82,6 +82,22 @@ pub fn list(random: &mut Random, kind: usize) -> Vec<u64> {
     }
 }
 
+/// Few multiples of a number that is a power of two, or up to three away from one: there f32 may round the gcd, or its logarithm, up to the power.
+pub fn near_power(random: &mut Random) -> Vec<u64> {
+    let power = 2 + random.below(63) as u32;
+    let away = random.below(7) as i128 - 3;
+    let step = ((1i128 << power) + away).clamp(2, i128::from(u64::MAX)) as u64;
+    let most = (u64::MAX / step).min(1 << random.below(9));
+    let rows = 2 + random.below(40) as u64;
+    let rising = |i: u64| i % (most + 1);
+    let mut each = |f: &mut dyn FnMut(u64, &mut Random) -> u64| (0..rows).map(|i| step * f(i, random)).collect();
+    match most % 3 {
+        0 => each(&mut |_, r| r.next() % (most + 1)),
+        1 => each(&mut |i, _| rising(i)),
+        _ => each(&mut |i, _| rising(rows - i)),
+    }
+}
+
 /// A range of values whose bounds are near those of a list.
 pub fn range(random: &mut Random, values: &[u64]) -> (u64, u64) {
     let bound = |random: &mut Random| {

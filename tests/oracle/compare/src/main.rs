@@ -199,6 +199,15 @@ fn compare_list(tally: &mut Tally, random: &mut Random, values: &[u64]) {
     }
 }
 
+/// The choice between Bitpacked and Blockwise, with either listed first, and that of all three.
+fn compare_choices(tally: &mut Tally, values: &[u64]) {
+    for codecs in [[0, 2].as_slice(), &[2, 0], &[0, 1, 2], &[2, 1, 0]] {
+        if compare_writing(tally, values, codecs).is_some() {
+            tally.alike("choices where f32 may round", 1);
+        }
+    }
+}
+
 /// Whether two of the codecs take the same size, so that the order of the list decides.
 fn ties(values: &[u64]) -> bool {
     let sizes = columnar::sizes(values, &rust::codec_types(&[0, 1, 2]));
@@ -206,9 +215,28 @@ fn ties(values: &[u64]) -> bool {
     applying.iter().enumerate().any(|(i, size)| applying[..i].contains(size))
 }
 
-/// Small lists whose choice hangs on the saving being worked out in f32, which a generated list meets too seldom.
-fn lists_of_note() -> [(Vec<u64>, &'static [u8]); 2] {
-    [(vec![0, u64::MAX], &[2, 0]), ((0..7).rev().map(|i| 2_097_151 * i).collect(), &[0, 2])]
+/// Lists whose choice hangs on the saving being worked out in f32, which a generated list meets too seldom; and long ones, where f32 rounds the rows or
+/// their product with the exponent.
+fn lists_of_note() -> Vec<Vec<u64>> {
+    let falling = |step: u64, rows: u64| (0..rows).rev().map(|i| step * i).collect();
+    let turning = |step: u64, rows: u64| (0..rows).map(|i| i % 2 * step).collect();
+    vec![
+        vec![0, u64::MAX],
+        falling(2_097_151, 7),
+        falling(2_097_150, 7),
+        turning(1 << 63, 266_313),
+        turning(u64::MAX, 266_313),
+        turning((1 << 40) - 1, 1_048_577),
+        falling(256, 16_777_217),
+    ]
+}
+
+/// Whether this platform's log2 is that of the table that the saving goes by: each bound is the least f32 whose log2 reaches its power.
+fn bounds_hold() -> bool {
+    let source = include_str!("../../../../crates/float/src/saving.rt");
+    let table = source.split_once("[u32; 65] = [").and_then(|(_, rest)| rest.split_once(']')).expect("the table of bounds").0;
+    let bounds = table.split(',').filter_map(|word| u32::from_str_radix(word.trim().strip_prefix("0x")?, 16).ok()).map(f32::from_bits);
+    bounds.enumerate().all(|(power, bound)| bound.log2() >= power as f32 && bound.next_down().log2() < power as f32)
 }
 
 fn main() -> ExitCode {
@@ -216,13 +244,20 @@ fn main() -> ExitCode {
     let (many, seed) = (words.next().unwrap_or(10_000), words.next().unwrap_or(1));
     std::panic::set_hook(Box::new(|_| {}));
     let (mut tally, mut random) = (Tally::default(), Random::new(seed));
-    for (values, codecs) in lists_of_note() {
-        compare_writing(&mut tally, &values, codecs);
+    for values in lists_of_note() {
+        compare_choices(&mut tally, &values);
     }
     for turn in 0..many {
-        let values = lists::list(&mut random, turn as usize % lists::KINDS);
+        // Every third has a gcd on or near a power of two.
+        let values = if turn % 3 == 2 { lists::near_power(&mut random) } else { lists::list(&mut random, (turn as usize / 3 * 2 + turn as usize % 3) % lists::KINDS) };
         compare_list(&mut tally, &mut random, &values);
+        if turn % 3 == 2 {
+            compare_choices(&mut tally, &values);
+        }
     }
-    println!("{many} lists of {} kinds, seed {seed}", lists::KINDS);
+    println!("{many} lists, {} of them with a gcd within 3 of a power of two, the others of {} kinds; seed {seed}", many / 3, lists::KINDS);
+    if !bounds_hold() {
+        println!("log2 of an f32 is another here than in the table of bounds (docs/DIFFERENCES.md): the choice of a codec may differ");
+    }
     if tally.report() { ExitCode::SUCCESS } else { ExitCode::FAILURE }
 }

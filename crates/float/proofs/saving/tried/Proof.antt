@@ -1,8 +1,8 @@
 -- `saving::tried` meets its contract: each arm returns what is picked where the bound's test is as the arm found it.
 -- Assumes nothing.
 use borrow.Author.Needs.{needs}
-use Rattle.blockwise_linear.proofs.saving.tried.Statement.{statement}
-use Rattle.blockwise_linear.proofs.saving.tried.Tie as tie
+use Rattle.float.proofs.saving.tried.Statement.{statement}
+use Rattle.float.proofs.saving.tried.Tie as tie
 
 bound-requires : tie.Need-bound-requires
 bound-requires c κs = search needs

@@ -95,7 +95,7 @@ fn tried(x: f32, k: usize, last: u64) -> u64
 fn exponent(gcd: u64) -> u64
     ensures { λ r. ⌜ r ≡ exponentOf gcd ⌝ }
 {
-    let x = float::nearest(gcd);
+    let x = crate::nearest(gcd);
     let mut last: u64 = 0;
     let mut k: usize = 0;
     while k < 65 {

@@ -6,9 +6,9 @@ use native.Mathlib.Omega.{arith}
 use lib.Dec.{le→leb}
 use lib.Ieee.{ofBits, inFloat}
 use Rattle.format.proofs.Savings.{exponent-most}
-use Rattle.blockwise_linear.proofs.Exponents.{saving-small, saving-is}
-use Rattle.blockwise_linear.proofs.saving.saving_of.Statement.{statement}
-use Rattle.blockwise_linear.proofs.saving.saving_of.Tie as tie
+use Rattle.float.proofs.Searching.{saving-small, saving-is}
+use Rattle.float.proofs.saving.saving_of.Statement.{statement}
+use Rattle.float.proofs.saving.saving_of.Tie as tie
 
 exponent-requires : tie.Need-exponent-requires
 exponent-requires c κs = search needs

@@ -2,9 +2,9 @@
 -- Assumes nothing.
 use Prim.Native.Nat.{_-_}
 use native.Mathlib.Omega.{arith}
-use Rattle.blockwise_linear.proofs.Exponents.{Search, search-start, search-turn, search-end}
-use Rattle.blockwise_linear.proofs.saving.exponent.Statement.{statement}
-use Rattle.blockwise_linear.proofs.saving.exponent.Tie as tie
+use Rattle.float.proofs.Searching.{Search, search-start, search-turn, search-end}
+use Rattle.float.proofs.saving.exponent.Statement.{statement}
+use Rattle.float.proofs.saving.exponent.Tie as tie
 
 abbrev Inv-loop : tie.InvT-loop
 Inv-loop gcd x last₀ k₀ last k = Search gcd x last k

@@ -8,8 +8,8 @@ use Prim.Native.Nat.{ℕ}
 use lib.Ieee.{binary32, nanBits}
 use Rattle.format.specs.Saving.{powerBounds}
 use Rattle.format.proofs.Savings.{every-at}
-use Rattle.blockwise_linear.proofs.saving.bound.Statement.{statement}
-use Rattle.blockwise_linear.proofs.saving.bound.Tie as tie
+use Rattle.float.proofs.saving.bound.Statement.{statement}
+use Rattle.float.proofs.saving.bound.Tie as tie
 
 -- some bits are a number's
 number : ℕ → Bool
