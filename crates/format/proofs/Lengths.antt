@@ -1,6 +1,6 @@
 -- How long a written column is, beside its estimate (`lengths`).
 --     exact     Bitpacked and Linear
---     near      Blockwise with gcd 1; `nine-met` has a column that takes all nine bytes
+--     near      Blockwise with gcd 1; `nine-met` has a column that takes all nine bytes, `nine-passed` one of a larger gcd that takes more
 -- Assumes nothing.
 use mathlib.Core.Path.{_≡_, refl, sym, ap, _∙_, subst}
 use mathlib.Core.Option.{some}
@@ -170,11 +170,20 @@ near vs cs bytes room estimate each one w =
 pub lengths : Lengths
 lengths = (exact, trains-alike, near)
 
--- ---- the nine bytes are met: 100, 103, 300 have the intercept 3, and less their minimum one of ten bytes
+-- ---- how near the bounds are
 
+-- the nine bytes are met: 100, 103, 300 have the intercept 3, and less their minimum one of ten bytes
 abbrev dip : List ℕ
 dip = 100 ∷ 103 ∷ 300 ∷ []
 
 pub nine-met : (sizeOf 2 (statsOf dip) dip ≡ some 20) × (length (columnBy 2 dip) ≡ 1 + 20 + 9)
 unfolding sizeOf statsOf reduce foldFrom gcd euclid spellHead spell spellIn blocks blocksIn blockSizes blockSize spellLine trained rising height slopeOf nearer residuals residualsFrom lineAt blockWidth blockResiduals width bitLength bitsIn saving exponentOf lastReached powerBounds reaches inF32 nearest body blockwise joined blockArea blockEntry footer packed bytesOf rowsBits bitsOf numOf numBytes
 nine-met = (refl, refl)
+
+-- a larger gcd has no such bound: eight steps of 2^16 lie on a line either way, and the estimate takes off what the gcd is thought to save all the same
+abbrev steps : List ℕ
+steps = map (λ (k : ℕ). k * 2 ^ 16) (0 ∷ 1 ∷ 2 ∷ 3 ∷ 4 ∷ 5 ∷ 6 ∷ 7 ∷ [])
+
+pub nine-passed : (sizeOf 2 (statsOf steps) steps ≡ some 3) × (length (columnBy 2 steps) ≡ 1 + 17)
+unfolding sizeOf statsOf reduce foldFrom gcd euclid spellHead spell spellIn blocks blocksIn blockSizes blockSize spellLine trained rising height slopeOf nearer residuals residualsFrom lineAt blockWidth blockResiduals width bitLength bitsIn saving exponentOf lastReached powerBounds reaches inF32 nearest body blockwise joined blockArea blockEntry footer packed bytesOf rowsBits bitsOf numOf numBytes
+nine-passed = (refl, refl)

@@ -1,5 +1,6 @@
 -- How long a column can get, by its rows alone.
---     bounded, roomy      by its code byte, and by any
+--     bounded             by its code byte
+--     reserved, roomy     by any: no column is longer, and no output of that length too short
 --     capped, planned     where Bitpacked is listed: the estimate of what is chosen, and what is written with gcd 1
 -- Assumes nothing.
 use mathlib.Core.Path.{_≡_, refl, sym, ap, _∙_, subst}
@@ -22,7 +23,7 @@ use Rattle.format.specs.Stats.{statsOf, countOf, spellHead}
 use Rattle.format.specs.Line.{spellLine, residuals}
 use Rattle.format.specs.Bodies.{normalised, linearLine, linearWidth, bitpacked, linear, blocks, blockCount, blockArea, joined, footer, blockwise, body, columnBy}
 use Rattle.format.specs.Writing.{sizeOf, written}
-use Rattle.format.specs.Lengths.{WroteBy, mostBytes, Bounded, Capped, Roomy, Planned}
+use Rattle.format.specs.Lengths.{WroteBy, mostBytes, reserve, Bounded, Reserved, Capped, Roomy, Planned}
 use Rattle.format.proofs.Lists.{below-or}
 use Rattle.format.proofs.Outcomes.{not-value, value-same, by-demand}
 use Rattle.format.proofs.Widths.{width-most}
@@ -129,11 +130,14 @@ capped vs cs bytes room listed e =
 
 -- ---- room for any column
 
-room-most : (codec rows : ℕ) → mostBytes codec rows ≤ 62 + 8 * rows + 21 * blockCount rows
+reserve-most : (codec rows : ℕ) → mostBytes codec rows ≤ reserve rows
 unfolding mostBytes
-room-most zero rows = omega arith
-room-most (suc zero) rows = omega arith
-room-most (suc (suc c)) rows = omega arith
+reserve-most zero rows = omega arith
+reserve-most (suc zero) rows = omega arith
+reserve-most (suc (suc c)) rows = omega arith
+
+pub reserved : Reserved
+reserved vs cs bytes room e = le-trans (bounded vs cs bytes room e) (reserve-most (getD bytes 0 0) (length vs))
 
 -- refusals of one outcome have one number
 number-same : {A : Type 0} (m n : ℕ) (xs ys : List ℕ) → _≡_ {A = Outcome A} (refusal m xs) (refusal n ys) → m ≡ n
@@ -148,7 +152,7 @@ roomy vs cs also room h e = go (verdict vs cs) (sym (written-said vs cs room (ve
     go (nothing few k n) f = let z = number-same 3 4 [] also f in omega arith
     go (writes few k c) f =
         let codec = c .best .codec in
-        let long : length (columnBy codec vs) ≤ room = le-trans (column-most codec vs) (le-trans (room-most codec (length vs)) h) in
+        let long : length (columnBy codec vs) ≤ room = le-trans (column-most codec vs) (le-trans (reserve-most codec (length vs)) h) in
         not-value (sym (rw (le-leb (length (columnBy codec vs)) room long) at f))
 
 -- ---- with Bitpacked listed, and gcd 1

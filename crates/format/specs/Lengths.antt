@@ -1,6 +1,6 @@
 -- How long a written column is, as statements about the definitions.
 -- Assumes nothing.
-use Prim.Native.Nat.{ℕ, zero, suc, _+_, _*_, _^_, _≤_, _<_}
+use Prim.Native.Nat.{ℕ, zero, suc, _+_, _*_, _^_, _≤_, _<_, max}
 use mathlib.Core.Path.{_≡_}
 use mathlib.Core.Option.{some}
 use mathlib.Core.List.{List, map}
@@ -68,9 +68,17 @@ Capped =
     (vs cs bytes : List ℕ) (room : ℕ) → Listed cs → written vs cs room ≡ value bytes
     → (estimate : ℕ) × WroteBy (getD bytes 0 0) vs cs room estimate bytes × (1 + estimate ≤ mostBytes 0 (length vs))
 
--- so much room is enough for any column of so many rows: no output of that length is too short
+-- what to reserve for so many rows, whatever their codec will be
+abbrev pub reserve : (rows : ℕ) → ℕ
+reserve rows = 45 + 8 * rows + 21 * max 1 (blockCount rows)
+
+-- no column is longer
+abbrev pub Reserved : Type 0
+Reserved = (vs cs bytes : List ℕ) (room : ℕ) → written vs cs room ≡ value bytes → length bytes ≤ reserve (length vs)
+
+-- and no output of that length is too short
 abbrev pub Roomy : Type 0
-Roomy = (vs cs also : List ℕ) (room : ℕ) → 62 + 8 * length vs + 21 * blockCount (length vs) ≤ room → written vs cs room ≡ refusal 4 also → ⊥
+Roomy = (vs cs also : List ℕ) (room : ℕ) → reserve (length vs) ≤ room → written vs cs room ≡ refusal 4 also → ⊥
 
 -- where Bitpacked is listed, a column of gcd 1 takes at most Bitpacked's most bytes, and nine a block if it is Blockwise
 abbrev pub Planned : Type 0

@@ -63,8 +63,9 @@ pub fn column_stats(values: &[u64]) -> Result<ColumnStats, Refusal> {
     Ok(ColumnStats { minimum, maximum, gcd, rows: rows as u32 })
 }
 
-/// The most bytes that a column of so many rows can have, whatever its codec: code byte, head, a line and a width byte for each block, a
-/// footer's length, and at most eight bytes a row.
+/// Enough bytes for any column of so many rows, whatever its codec: code byte, head, a line and a width byte for each block, a footer's
+/// length, and at most eight bytes a row. No column is longer, and no output of this length is refused 4: both are proved
+/// (`MostBytes.reserved`, `roomy` in crates/format).
 pub fn most_bytes(rows: usize) -> usize {
     let varint = 10;
     let fixed = 1 + 4 * varint + 4;
