@@ -57,6 +57,7 @@ pub mod MostBytes
 -- cases, computed
 pub mod Asking
 pub mod RuleCases
+pub mod RunCases
 pub mod LongCases
 pub mod Cases
 pub mod TypedCases
