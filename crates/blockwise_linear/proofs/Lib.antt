@@ -6,9 +6,3 @@ pub mod Passes
 pub mod Lasts
 -- reading rows
 pub mod Rows
--- writing blocks
-pub mod Filled
-pub mod Blocks
-pub mod Parts
-pub mod Walks
-pub mod Body

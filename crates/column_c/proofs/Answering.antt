@@ -20,7 +20,7 @@ use Rattle.format.specs.declared.Stated.the-variants.{Stats, Refused as NotStat
 use Rattle.format.specs.Outcome.{Outcome, Outcome.value, Outcome.refusal, _>>=_, howMany, stored}
 use Rattle.format.specs.Opening.{Loaded, columnIn}
 use Rattle.format.specs.Refusals.{paper, numbered, statedMeaning, openedMeaning}
-use Rattle.u64_based.specs.Calls.{OpenedAs}
+use Rattle.format.specs.Calls.{OpenedAs}
 use Rattle.column_c.specs.declared.Made.{Made}
 use Rattle.column_c.specs.declared.Made.the-variants.{Column as MadeColumn, Refused as NotMade}
 use Rattle.column_c.specs.Numbers.{madeMeaning, told, orZero, offsetOf, longerIn, statsNumbers, columnNumbers, filled, Answers, Lists, Opens, States}

@@ -19,7 +19,7 @@ use Rattle.format.specs.Opening.{Loaded}
 use Rattle.format.specs.Outcome.{Outcome, Outcome.value, Outcome.refusal, Wrote}
 use Rattle.format.specs.Refusals.{openedMeaning}
 use Rattle.format.proofs.Outcomes.{value-same}
-use Rattle.u64_based.specs.Calls.{OpenedAs}
+use Rattle.format.specs.Calls.{OpenedAs}
 use Rattle.listing.specs.Beginning.{refusedBy}
 use Rattle.listing.proofs.Texts.{counts}
 use Rattle.comparison.specs.declared.Begun.the-variants.{Columns, Refused as BegunRefused}

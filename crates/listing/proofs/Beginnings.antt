@@ -18,7 +18,7 @@ use Rattle.format.specs.Opening.{Loaded}
 use Rattle.format.specs.Outcome.{Outcome, Outcome.value, Outcome.refusal, Wrote}
 use Rattle.format.specs.Refusals.{openedMeaning}
 use Rattle.format.proofs.Outcomes.{value-same}
-use Rattle.u64_based.specs.Calls.{OpenedAs}
+use Rattle.format.specs.Calls.{OpenedAs}
 use Rattle.listing.specs.declared.Begun.the-variants.{Column as BegunColumn, Refused as BegunRefused}
 use Rattle.listing.specs.Beginning.{refusedBy, columnLine, BegunAs}
 

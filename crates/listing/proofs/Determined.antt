@@ -12,7 +12,7 @@ use Rattle.format.specs.Listing.{ascii, namedLine, rowLine, openedHere}
 use Rattle.format.specs.Outcome.{Wrote}
 use Rattle.format.specs.Reading.{rowAt}
 use Rattle.format.proofs.Answers.{opened-injective}
-use Rattle.u64_based.specs.Calls.{OpenedAs}
+use Rattle.format.specs.Calls.{OpenedAs}
 use Rattle.listing.specs.declared.Begun.{Begun}
 use Rattle.listing.specs.declared.Filled.{Filled}
 use Rattle.listing.specs.Beginning.{BegunAs}

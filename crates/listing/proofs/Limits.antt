@@ -27,7 +27,7 @@ use Rattle.format.specs.Refusals.{paper}
 use Rattle.format.proofs.Laid.{opened-laid}
 use Rattle.format.proofs.Openings.{OpensBitpacked, OpensLinear, OpensBlockwise, by-opening}
 use Rattle.format.proofs.Outcomes.{by-demand, by-step, not-value, value-same}
-use Rattle.u64_based.specs.Calls.{OpenedAs}
+use Rattle.format.specs.Calls.{OpenedAs}
 
 -- ---- the bytes
 

@@ -11,7 +11,7 @@ ghost use Rattle.format.specs.Listing.{ascii, namedLine, rowLine, openedHere};
 ghost use Rattle.format.specs.Opening.{columnIn};
 ghost use Rattle.format.specs.Outcome.{Wrote};
 ghost use Rattle.format.specs.Reading.{rowAt};
-ghost use Rattle.u64_based.specs.Calls.{OpenedAs};
+ghost use Rattle.format.specs.Calls.{OpenedAs};
 ghost use Rattle.listing.specs.Beginning.{BegunAs};
 ghost use Rattle.listing.specs.Chunk.{chunk, filled, lineMax};
 use format::Column;

@@ -19,8 +19,8 @@ use Rattle.format.specs.Bodies.{body, bitpacked, blockwise, blocks, blocksIn, b
 use Rattle.format.specs.Saving.{saving, exponentOf, lastReached, powerBounds, reaches, inF32, nearest}
 use Rattle.format.specs.Writing.{written, known, chosen, sizeOf, blockSize, blockSizes}
 use Rattle.format.proofs.Answers.{written-injective}
-use Rattle.u64_based.specs.Writing.{lent}
-use Rattle.u64_based.specs.Calls.{SerializedAs}
+use Rattle.writing.specs.Writing.{lent}
+use Rattle.format.specs.Calls.{SerializedAs}
 
 pub record Case : Type 0 where
   pub values : List ℕ

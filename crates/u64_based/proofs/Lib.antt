@@ -1,9 +1,5 @@
 -- Laws of the entry points; the head of each file lists what it offers.
 
--- choosing and writing
-pub mod Choosing
-pub mod Sizes
-pub mod Serializing
 -- opening
 pub mod Opens
 -- reading a row

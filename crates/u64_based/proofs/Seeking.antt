@@ -34,7 +34,7 @@ use Rattle.format.proofs.Runs.{run-agree, run-long}
 use Rattle.u64_based.specs.declared.finding.Seek.{Seek}
 use Rattle.u64_based.specs.declared.reader.Decoded.{Decoded}
 use Rattle.u64_based.specs.declared.reader.Decoded.the-variants.{Whole, Refused as NotDecoded}
-use Rattle.u64_based.specs.Calls.{FoundAs}
+use Rattle.format.specs.Calls.{FoundAs}
 use Rattle.u64_based.specs.Chunks.{DecodedAs, chunkSize}
 use Rattle.u64_based.specs.Lookup.{rowsIn, counted, sought, Going, Within, left, Counting, Storing, Seeking}
 use Rattle.u64_based.proofs.Chunks.{chunk-some, chunk-to}

@@ -27,7 +27,7 @@ use Rattle.format.specs.Runs.{readRun, decoded}
 use Rattle.format.proofs.Outcomes.{not-value, value-same}
 use Rattle.format.proofs.Runs.{run-long, run-after, run-refused}
 use Rattle.u64_based.specs.declared.runs.Walk.{Walk}
-use Rattle.u64_based.specs.Calls.{RunAs}
+use Rattle.format.specs.Calls.{RunAs}
 use Rattle.u64_based.specs.Chunks.{chunkSize}
 use Rattle.u64_based.specs.Running.{Going, Single, Good, left, Passing, Walking}
 use Rattle.u64_based.proofs.Turns.{sets-behind}

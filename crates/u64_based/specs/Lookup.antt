@@ -10,7 +10,7 @@ use lib.Seq.{sets}
 use Rattle.format.specs.Lookup.{allRead, rowsPassing}
 use Rattle.format.specs.Outcome.{Outcome, Outcome.value, _>>_, demand, pick}
 use Rattle.u64_based.specs.declared.finding.Seek.{Seek}
-use Rattle.u64_based.specs.Calls.{FoundAs}
+use Rattle.format.specs.Calls.{FoundAs}
 
 -- the rows whose values, in a list that begins with row r, pass a test
 unfoldable pub rowsIn : (test : ℕ → Bool) (r : ℕ) (values : List ℕ) → List ℕ

@@ -10,7 +10,7 @@ use lib.Seq.{sets}
 use Rattle.format.specs.Outcome.{Outcome, Outcome.value, pick}
 use Rattle.format.specs.Runs.{readRun}
 use Rattle.u64_based.specs.declared.runs.Walk.{Walk}
-use Rattle.u64_based.specs.Calls.{RunAs}
+use Rattle.format.specs.Calls.{RunAs}
 
 -- a run that is going on, with rows left in its pass
 pub record Going (w : Walk) : Type 0 where

@@ -1,11 +1,9 @@
 // A column of numbers of 64 bits: the entry points. No argument makes a call fail but by a numbered refusal, and each contract
 // says what a call answers and what every lent entry holds afterwards.
-mod choice;
 mod finding;
 mod opening;
 mod reader;
 mod runs;
-mod writer;
 
 ghost use mathlib.Core.Path.{_≡_};
 ghost use Prim.Native.Nat.{_/_};
@@ -18,9 +16,7 @@ ghost use Rattle.format.specs.Lookup.{lookedUp, within};
 ghost use Rattle.format.specs.Reading.{rowAt};
 ghost use Rattle.format.specs.Runs.{decoded};
 ghost use Rattle.format.specs.Typed.{storedAs};
-ghost use Rattle.u64_based.specs.Calls.{SerializedAs, OpenedAs, FoundAs, RunAs};
-use choice::Best;
-use choice::Place;
+ghost use Rattle.format.specs.Calls.{SerializedAs, OpenedAs, FoundAs, RunAs};
 use format::Column;
 use format::ColumnRow;
 use format::Found;
@@ -32,6 +28,8 @@ use format::RunRead;
 use format::Stated;
 use format::Written;
 use stats::HeadRead;
+use writing::choice::Best;
+use writing::choice::Place;
 
 // The statistics of some values.
 pub fn column_stats(values: &[u64]) -> Stated
@@ -65,13 +63,13 @@ pub fn serialize_as(kind: Kind, values: &[u64], codecs: &[u8], out: &mut [u8]) -
     if 0xffff_ffff < values.len() {
         return Written::Refused(Refusal::TooManyValues);
     }
-    if let Place::At(place) = choice::unknown(codecs) {
+    if let Place::At(place) = writing::choice::unknown(codecs) {
         return Written::Refused(Refusal::UnknownCodec { place });
     }
     let stats = stats::collect(kind, values);
-    match choice::choose(kind, values, stats, codecs) {
+    match writing::choice::choose(kind, values, stats, codecs) {
         Best::Nothing => Written::Refused(Refusal::NoCodecApplies),
-        Best::Least { codec, size: _ } => writer::put(kind, values, stats, codec, out),
+        Best::Least { codec, size: _ } => writing::writer::put(kind, values, stats, codec, out),
     }
 }
 

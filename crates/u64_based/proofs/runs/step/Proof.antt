@@ -2,7 +2,7 @@
 -- Assumes nothing.
 use mathlib.Core.Path.{refl, sym, _∙_}
 use native.Mathlib.Omega.{arith}
-use Rattle.blockwise_linear.proofs.Parts.{front-length}
+use Rattle.format.proofs.Lists.{front-length}
 use borrow.Author.Needs.{needs}
 use Rattle.u64_based.proofs.runs.step.Statement.{statement}
 use Rattle.u64_based.proofs.runs.step.Tie as tie
