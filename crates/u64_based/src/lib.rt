@@ -2,7 +2,7 @@
 // says what a call answers and what every lent entry holds afterwards.
 mod choice;
 mod finding;
-mod opening;
+pub mod opening;
 mod reader;
 mod runs;
 mod writer;
@@ -101,8 +101,7 @@ pub fn open(bytes: &[u8], table: &mut [u64]) -> Opened
 {
     let room = table.len() / 4;
     let answer = open_plain(bytes, room);
-    let rows = opening::table_rows(answer);
-    blockwise_linear::reader::fill(bytes, rows, table);
+    opening::fill(bytes, answer, table);
     answer
 }
 
