@@ -1,7 +1,7 @@
 // Compares columns of each pair of codecs, with equal and unequal answers, and of each refusal that a comparison can begin with, each below its title, through
 // the calls that `compare` makes. tools/answers/shown has the model say what it has to print.
 use comparison::Begun;
-use comparison::Filled;
+use comparison::Compared;
 use format::Column;
 use libc::STDOUT_FILENO;
 
@@ -14,7 +14,7 @@ fn show_rows(
     rtable: &[u64; 8192],
     rbytes: &[u8],
     from: u32,
-) -> Filled {
+) -> Compared {
     let mut out = io::buffer();
     let took = comparison::fill_lines(left, ltable, lbytes, right, rtable, rbytes, from, &mut out);
     let n = took.bytes;
@@ -69,10 +69,25 @@ fn show_equal_codecs() {
         b"\x02\x8A\x8A\x82\x83\x08\x00\x00\x00\x00\x88\x80\x02\x07\x00\x00\x00",
         b"\x01\x8A\x8A\x82\x83\x80\x8A\x05\x80\x2A",
     );
+    show(
+        b"Blockwise and Bitpacked\n",
+        b"\x02\x8A\x8A\x82\x83\x08\x00\x00\x00\x00\x88\x80\x02\x07\x00\x00\x00",
+        b"\x00\x8A\x8A\x82\x83\x18",
+    );
 }
 
 // Equal answers of other columns.
 fn show_equal_rows() {
+    show(
+        b"Bitpacked, the minimum spelled longer\n",
+        b"\x00\x8A\x8A\x82\x83\x18",
+        b"\x00\x0A\x80\x8A\x82\x83\x18",
+    );
+    show(
+        b"Linear with itself\n",
+        b"\x01\x8A\x8A\x82\x83\x80\x8A\x05\x80\x2A",
+        b"\x01\x8A\x8A\x82\x83\x80\x8A\x05\x80\x2A",
+    );
     show(
         b"Blockwise with itself\n",
         b"\x02\x8A\x8A\x82\x83\x08\x00\x00\x00\x00\x88\x80\x02\x07\x00\x00\x00",
@@ -132,10 +147,24 @@ fn show_unequal_codecs() {
         b"\x02\x8A\x8A\x82\x83\x18\x00\x00\x00\x00\x88\x80\x02\x07\x00\x00\x00",
         b"\x01\x8A\x8A\x82\x83\x80\x8A\x05\x40\x29",
     );
+}
+
+// Unequal answers of one codec.
+fn show_unequal_bytes() {
     show(
         b"Bitpacked with another byte\n",
         b"\x00\x8A\x8A\x82\x83\x18",
         b"\x00\x8A\x8A\x82\x83\x14",
+    );
+    show(
+        b"Linear with another byte\n",
+        b"\x01\x8A\x8A\x82\x83\x80\x8A\x05\x80\x2A",
+        b"\x01\x8A\x8A\x82\x83\x80\x8A\x05\x40\x29",
+    );
+    show(
+        b"Blockwise with another byte\n",
+        b"\x02\x8A\x8A\x82\x83\x08\x00\x00\x00\x00\x88\x80\x02\x07\x00\x00\x00",
+        b"\x02\x8A\x8A\x82\x83\x18\x00\x00\x00\x00\x88\x80\x02\x07\x00\x00\x00",
     );
 }
 
@@ -305,6 +334,7 @@ fn main() {
     show_equal_codecs();
     show_equal_rows();
     show_unequal_codecs();
+    show_unequal_bytes();
     show_refused_rows();
     show_one_only();
     show_left_head();

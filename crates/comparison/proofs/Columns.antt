@@ -1,6 +1,7 @@
 -- What a comparison of two opened columns says.
---     comparison-refused                 a side that does not open: one line
+--     comparison-left, -right            a side that does not open: one line
 --     comparison-chunks                  two that open: chunk after chunk, and the last line
+--     comparison-within                  each chunk stays in its room
 --     comparison-self                    a column compared with itself
 --     equal-columns                      `lines 0` exactly for as many rows with equal answers
 --     lacks-left, lacks-right            a row of one side only has a line
@@ -11,21 +12,24 @@ use mathlib.Core.Bool.{Bool, true, false}
 use mathlib.Core.Logic.{_↔_, _⊎_, inl, inr, ⊎-elim}
 use mathlib.Core.List.{List, [], _∷_, _++_}
 use native.Mathlib.Omega.{arith}
-use borrow.Author.Tests.{le-ltb, eqb-true}
+use borrow.Author.Tests.{eqb-true}
 use lib.ListN.{length, replicate, length-replicate}
 use Rattle.format.specs.Outcome.{Outcome, Outcome.value, Outcome.refusal}
 use Rattle.format.specs.Opening.{Loaded}
-use Rattle.format.specs.Reading.{rowIn, rowAt}
-use Rattle.format.specs.Demands.{filledBy, answered}
+use Rattle.format.specs.Reading.{rowAt}
+use Rattle.format.specs.Demands.{answered}
 use Rattle.format.specs.Listing.{ascii, namedLine, openedHere}
 use Rattle.format.specs.Comparing.{equalAnswers, compared, comparison}
 use Rattle.format.proofs.Laid.{opened-laid}
 use Rattle.format.proofs.Lists.{below-or}
-use Rattle.format.proofs.Rows.{filled-row, own-row}
-use Rattle.listing.specs.Chunk.{chunks}
-use Rattle.listing.proofs.Limits.{here-opened}
+use Rattle.format.proofs.Rows.{own-row}
+use Rattle.text.specs.Chunk.{chunks}
+use Rattle.text.proofs.Chunks.{chunk-within}
+use Rattle.text.proofs.Limits.{here-opened}
+use Rattle.text.proofs.Rows.{here-lacking, here-answers, here-sayable}
 use Rattle.comparison.specs.Beginning.{onlyLine}
-use Rattle.comparison.specs.Chunk.{pairMax, textOf, lineCounts}
+use Rattle.comparison.specs.Chunk.{pairMax, textOf, pairChunk, lineCounts}
+use Rattle.comparison.proofs.RowLines.{text-most}
 use Rattle.comparison.proofs.Comparisons.{equal-self, nothing-differs, chunks-compared, compared-self}
 
 -- ---- one column
@@ -39,25 +43,11 @@ module _ (s : List ℕ) (o : Loaded) (found : openedHere s ≡ value o) where
   abbrev reading : ℕ → Outcome ℕ
   reading r = rowAt (o .column) (o .table) s r
 
-  -- a row that the column lacks
-  lacking : (r : ℕ) (table : List ℕ) → o .column .rows ≤ r → rowAt (o .column) table s r ≡ refusal 12 []
-  unfolding rowIn
-  lacking r table h = simp (le-ltb r (o .column .rows) h)
-
-  -- a lent table that was filled answers as they do
-  answers : (table : List ℕ) → 8192 ≤ length table → (r : ℕ) → answered o table s r ≡ reading r
-  answers table enough r =
-      ⊎-elim
-      (λ inside. let laid = opened-laid s 2048 o (here-opened s o found) in
-      filled-row o table s r (omega (arith, laid .table)) (laid .rows .present r inside))
-      (λ over. lacking r (filledBy o table) over ∙ sym (lacking r (o .table) over))
-      (below-or r (o .column .rows))
-
   -- a row of its own, whichever table was lent
   own-by : (table : List ℕ) → length table ≡ 8192 → (r : ℕ) → r < o .column .rows → Own r (reading r)
   own-by table long r h =
       let room : 2048 ≡ length table / 4 = omega arith in
-      rw (← answers table (omega arith) r) (own-row s table o (rw (← room) (here-opened s o found)) r h)
+      rw (← here-answers s o found table (omega arith) r) (own-row s table o (rw (← room) (here-opened s o found)) r h)
 
   own : (r : ℕ) → r < o .column .rows → Own r (reading r)
   own = own-by (replicate {A = ℕ} 8192 0) (length-replicate {A = ℕ} 8192 0)
@@ -104,19 +94,28 @@ module _ (s t : List ℕ) (o p : Loaded) (e : openedHere s ≡ value o) (f : ope
       ++ namedLine (ascii "lines ") (lineCounts rows (answered o ltable s) (answered p rtable t) rows room 0)
       ≡ comparison s t
   comparison-chunks ltable rtable l m room free =
-      let left : answered o ltable s ≡ rowAt (o .column) (o .table) s = (λ i r. answers s o e ltable l r i) in
-      let right : answered p rtable t ≡ rowAt (p .column) (p .table) t = (λ i r. answers t p f rtable m r i) in
+      let left : answered o ltable s ≡ rowAt (o .column) (o .table) s = (λ i r. here-answers s o e ltable l r i) in
+      let right : answered p rtable t ≡ rowAt (p .column) (p .table) t = (λ i r. here-answers t p f rtable m r i) in
       chunks-compared (answered o ltable s) (answered p rtable t) rows room free
       ∙ ap (λ (g : ℕ → Outcome ℕ). compared g (answered p rtable t) rows) left
       ∙ ap (λ (g : ℕ → Outcome ℕ). compared (rowAt (o .column) (o .table) s) g rows) right
       ∙ sym both
 
+  -- within the room
+  pub comparison-within : (ltable rtable : List ℕ) → 8192 ≤ length ltable → 8192 ≤ length rtable → (room r : ℕ)
+      → length (pairChunk (answered o ltable s) (answered p rtable t) rows room r) ≤ room
+  comparison-within ltable rtable l m room r =
+      let left = opened-laid s 2048 o (here-opened s o e) in
+      let right = opened-laid t 2048 p (here-opened t p f) in
+      chunk-within (textOf (answered o ltable s) (answered p rtable t)) pairMax rows room r
+      (λ i h. text-most i (answered o ltable s i) (answered p rtable t i) (omega (arith, left .head .few, right .head .few)) (here-sayable s o e ltable l i) (here-sayable t p f rtable m i))
+
   -- a row of one side only has a line
   pub lacks-left : (x : ℕ) → o .column .rows ≤ x → x < p .column .rows → equalAnswers (rowAt (o .column) (o .table) s x) (rowAt (p .column) (p .table) t x) ≡ false
-  lacks-left x over inside = rw (lacking s o e x (o .table) over) (no-absent x (rowAt (p .column) (p .table) t x) (own t p f x inside) .0)
+  lacks-left x over inside = rw (here-lacking s o e x (o .table) over) (no-absent x (rowAt (p .column) (p .table) t x) (own t p f x inside) .0)
 
   pub lacks-right : (x : ℕ) → x < o .column .rows → p .column .rows ≤ x → equalAnswers (rowAt (o .column) (o .table) s x) (rowAt (p .column) (p .table) t x) ≡ false
-  lacks-right x inside over = rw (lacking t p f x (p .table) over) (no-absent x (rowAt (o .column) (o .table) s x) (own s o e x inside) .1)
+  lacks-right x inside over = rw (here-lacking t p f x (p .table) over) (no-absent x (rowAt (o .column) (o .table) s x) (own s o e x inside) .1)
 
   -- nothing is said exactly of two columns of as many rows, with equal answers
   pub equal-columns : (comparison s t ≡ namedLine (ascii "lines ") 0)

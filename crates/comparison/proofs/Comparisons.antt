@@ -19,8 +19,8 @@ use Rattle.format.specs.Listing.{ascii, namedLine}
 use Rattle.format.specs.Comparing.{equalAnswers, differ, differing, pairLines, compared}
 use Rattle.format.proofs.Lists.{below-or}
 use Rattle.format.proofs.Lookups.{Ascending, Asked, ascends, found-asked, asked-found}
-use Rattle.listing.specs.Chunk.{chunks}
-use Rattle.listing.proofs.Chunks.{chunk-most, chunk-some, chunks-all}
+use Rattle.text.specs.Chunk.{chunks}
+use Rattle.text.proofs.Chunks.{chunk-most, chunk-some, chunks-all}
 use Rattle.comparison.specs.Chunk.{pairMax, textOf, pairRows, lineCounts}
 use Rattle.comparison.proofs.Differing.{count-none, count-split, pair-texts, none-differ, all-equal}
 use Rattle.comparison.proofs.Feeds.{feeds, lines-feeds, name-feeds, named-line-feeds, compared-feeds}

@@ -11,9 +11,9 @@ use Rattle.format.specs.Listing.{ascii, namedLine, openedHere}
 use Rattle.format.specs.Outcome.{Wrote}
 use Rattle.format.specs.Reading.{rowAt}
 use Rattle.comparison.specs.declared.Begun.{Begun}
-use Rattle.comparison.specs.declared.Filled.{Filled}
+use Rattle.comparison.specs.declared.Compared.{Compared}
 use Rattle.comparison.specs.Beginning.{BegunAs}
-use Rattle.comparison.specs.Chunk.{pairChunk, filled}
+use Rattle.comparison.specs.Chunk.{pairChunk, comparedIn}
 
 -- two answers of `begin`, and what the lent tables and the line hold afterwards
 pub begin-determined : (s t ltable rtable line : List ℕ) (a b : Begun) (left left′ right right′ new new′ : List ℕ)
@@ -28,13 +28,13 @@ row-count-determined left right a b p q = p ∙ sym q
 
 -- two answers of `fill_lines`, and what the lent buffer holds afterwards
 module _ (left : Column) (ltable lbytes : List ℕ) (right : Column) (rtable rbytes : List ℕ) (from : ℕ) (out : List ℕ) where
-  abbrev answer : Filled
-  answer = filled (rowAt left ltable lbytes) (rowAt right rtable rbytes) (max (left .rows) (right .rows)) (length out) from
+  abbrev answer : Compared
+  answer = comparedIn (rowAt left ltable lbytes) (rowAt right rtable rbytes) (max (left .rows) (right .rows)) (length out) from
 
   abbrev written : List ℕ
   written = sets out 0 (pairChunk (rowAt left ltable lbytes) (rowAt right rtable rbytes) (max (left .rows) (right .rows)) (length out) from)
 
-  pub fill-lines-determined : (a b : Filled) (new new′ : List ℕ) → a ≡ answer → b ≡ answer → new ≡ written → new′ ≡ written → (a ≡ b) × (new ≡ new′)
+  pub fill-lines-determined : (a b : Compared) (new new′ : List ℕ) → a ≡ answer → b ≡ answer → new ≡ written → new′ ≡ written → (a ≡ b) × (new ≡ new′)
   fill-lines-determined a b new new′ p q n m = (p ∙ sym q, n ∙ sym m)
 
 -- two answers of `end_line`, and what the lent line holds afterwards

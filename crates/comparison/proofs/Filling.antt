@@ -1,4 +1,4 @@
--- The loop that fills a buffer with the lines of rows that differ, over any two readings: the listing's (listing/proofs/Filling), and a count.
+-- The loop that fills a buffer with the lines of rows that differ, over any two readings: that of any text (text/proofs/Filling), and a count.
 --     Pairing                              what holds at each turn
 --     pairing-starts, pairing-more         at the start; after a row
 --     pairing-answer, pairing-list         where nothing is left to take, answer and buffer are the chunk's
@@ -13,10 +13,10 @@ use lib.Seq.{sets}
 use Rattle.format.specs.Outcome.{Outcome, Wrote, pick}
 use Rattle.format.specs.Lookup.{rowsPassing}
 use Rattle.format.specs.Comparing.{equalAnswers, differing}
-use Rattle.listing.proofs.Chunks.{Took, took}
-use Rattle.listing.proofs.Filling.{Filling, filling-starts, filling-more, filling-rows, filling-bytes, filling-list}
-use Rattle.comparison.specs.declared.Filled.{Filled}
-use Rattle.comparison.specs.Chunk.{pairMax, pairText, textOf, pairRows, pairChunk, filled}
+use Rattle.text.proofs.Chunks.{Took, took}
+use Rattle.text.proofs.Filling.{Filling, filling-starts, filling-more, filling-rows, filling-bytes, filling-list}
+use Rattle.comparison.specs.declared.Compared.{Compared}
+use Rattle.comparison.specs.Chunk.{pairMax, pairText, textOf, pairRows, pairChunk, comparedIn}
 use Rattle.comparison.proofs.Differing.{count-next, count-most}
 
 -- rows from `from` up to r are looked at, with so many lines in `at` bytes of the buffer `old`, which is `new` now
@@ -52,7 +52,7 @@ module _ {left right : ℕ → Outcome ℕ} {rows from r lines at : ℕ} {old ne
       }
 
   module _ (none : pairRows left right rows (length old - at) r ≡ 0) where
-    pub pairing-answer : _≡_ {A = Filled} (record { rows = r - from; lines = lines; bytes = at }) (filled left right rows (length old) from)
+    pub pairing-answer : _≡_ {A = Compared} (record { rows = r - from; lines = lines; bytes = at }) (comparedIn left right rows (length old) from)
     pairing-answer =
         let looked = filling-rows (p .text) none in
         let counted : lines ≡ length (differing left right from (pairRows left right rows (length old) from)) =
@@ -64,14 +64,14 @@ module _ {left right : ℕ → Outcome ℕ} {rows from r lines at : ℕ} {old ne
     pairing-list = filling-list (p .text) none
 
 -- what a caller that goes on from chunk to chunk has of an answer: a row at least, none but those that are left, and no more lines than rows
-pub record Paired (rows from : ℕ) (r : Filled) : Type 0 where
+pub record Paired (rows from : ℕ) (r : Compared) : Type 0 where
   pub rows-took : Took rows from (r .rows)
   pub few : r .lines ≤ r .rows
 
-pub paired : (left right : ℕ → Outcome ℕ) (rows room from : ℕ) (r : Filled) → r ≡ filled left right rows room from → from < rows → pairMax ≤ room → Paired rows from r
+pub paired : (left right : ℕ → Outcome ℕ) (rows room from : ℕ) (r : Compared) → r ≡ comparedIn left right rows room from → from < rows → pairMax ≤ room → Paired rows from r
 paired left right rows room from r answer more free =
-    let looked = ap (λ (f : Filled). f .rows) answer in
-    let lines = ap (λ (f : Filled). f .lines) answer in
+    let looked = ap (λ (f : Compared). f .rows) answer in
+    let lines = ap (λ (f : Compared). f .lines) answer in
     record {
       rows-took = took (textOf left right) pairMax rows room from (r .rows) looked more free;
       few = omega (arith, count-most left right (pairRows left right rows room from) from);

@@ -1,8 +1,10 @@
 -- Laws and theorems; the head of each file lists what it offers.
 
 -- rows that differ
+pub mod Answers
 pub mod Differing
 pub mod Filling
+pub mod RowLines
 -- what a comparison says
 pub mod Feeds
 pub mod Comparisons

@@ -8,7 +8,7 @@ use lib.Seq.{sets}
 use Rattle.io.specs.Counts.{Counts}
 use Rattle.format.specs.Listing.{ascii, namedLine}
 use Rattle.format.specs.Opening.{Loaded, tableIn}
-use Rattle.format.specs.Outcome.{Outcome, Outcome.value, Outcome.refusal, stored}
+use Rattle.format.specs.Outcome.{Outcome, Outcome.value, Outcome.refusal, _>>=_, stored}
 use Rattle.comparison.specs.declared.Begun.{Begun}
 use Rattle.comparison.specs.declared.Begun.the-variants.{Columns, Refused}
 
@@ -29,10 +29,14 @@ abbrev pub lineLength : Begun → ℕ
 lineLength (Columns c d) = 0
 lineLength (Refused n) = n
 
+-- the numbers for a side's table: none where the other side does not open either
+abbrev pub tableWith : (other side : Outcome Loaded) → Outcome (List ℕ)
+tableWith other side = other >>= (λ (_ : Loaded). tableIn side)
+
 -- the answer, what each side's table holds, and the line before and after, whose first bytes the answer counts
 pub record BegunAs (left right : Outcome Loaded) (r : Begun) (ltable ltable′ rtable rtable′ old new : List ℕ) : Type 0 where
   pub answer : r ≡ begun left right
-  pub left-table : ltable′ ≡ stored (tableIn left) ltable
-  pub right-table : rtable′ ≡ stored (tableIn right) rtable
+  pub left-table : ltable′ ≡ stored (tableWith right left) ltable
+  pub right-table : rtable′ ≡ stored (tableWith left right) rtable
   pub line : new ≡ sets old 0 (onlyLine left right)
   pub counts : Counts (lineLength r) new

@@ -1,12 +1,12 @@
--- The lines of the rows that differ, in chunks (listing/specs/Chunk), over any two readings: what one call writes and answers.
+-- The lines of the rows that differ, in chunks (text/specs/Chunk), over any two readings: what one call writes and answers.
 -- Assumes nothing.
 use Prim.Native.Nat.{ℕ, zero, suc, _+_}
 use mathlib.Core.List.{List, []}
 use lib.ListN.{length}
 use Rattle.format.specs.Outcome.{Outcome, pick}
 use Rattle.format.specs.Comparing.{equalAnswers, pairLine, differing}
-use Rattle.listing.specs.Chunk.{chunkRows, chunk}
-use Rattle.comparison.specs.declared.Filled.{Filled}
+use Rattle.text.specs.Chunk.{chunkRows, chunk}
+use Rattle.comparison.specs.declared.Compared.{Compared}
 
 -- the longest line: ten digits, twenty bytes for each answer, two spaces and the line feed
 abbrev pub pairMax : ℕ
@@ -29,8 +29,8 @@ abbrev pub pairChunk : (left right : ℕ → Outcome ℕ) (rows room r : ℕ) �
 pairChunk left right rows room r = chunk (textOf left right) pairMax rows room r
 
 -- the answer: the rows looked at, the lines and their bytes
-abbrev pub filled : (left right : ℕ → Outcome ℕ) (rows room r : ℕ) → Filled
-filled left right rows room r = record {
+abbrev pub comparedIn : (left right : ℕ → Outcome ℕ) (rows room r : ℕ) → Compared
+comparedIn left right rows room r = record {
   rows = pairRows left right rows room r;
   lines = length (differing left right r (pairRows left right rows room r));
   bytes = length (pairChunk left right rows room r);

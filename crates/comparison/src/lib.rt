@@ -12,13 +12,14 @@ ghost use Rattle.format.specs.Listing.{ascii, namedLine, openedHere};
 ghost use Rattle.format.specs.Outcome.{Wrote};
 ghost use Rattle.format.specs.Reading.{rowAt};
 ghost use Rattle.comparison.specs.Beginning.{BegunAs};
-ghost use Rattle.comparison.specs.Chunk.{pairChunk, filled};
+ghost use Rattle.comparison.specs.Chunk.{pairChunk, comparedIn};
 use format::Column;
 use format::ColumnRow;
 use format::Opened;
 use lines::Done;
-use listing::lines::named_line;
-use listing::lines::refusal_number;
+use text::lines::named_line;
+use text::lines::refusal_number;
+use text::opening;
 
 // The longest line of a row.
 const LINE_MAX: usize = 53;
@@ -30,14 +31,14 @@ pub enum Begun {
 }
 
 // What a chunk took: how many rows were looked at, how many lines they have, and how many bytes the lines are.
-pub struct Filled {
+pub struct Compared {
     pub rows: u32,
     pub lines: u32,
     pub bytes: usize,
 }
 
-// Begins a comparison: opens both sides within a program's limits, each with its own table, and writes a refusal's line, the only one then, at the
-// start of the lent one.
+// Begins a comparison: opens both sides within a program's limits, and then fills the table of each. Where a side is refused, the left one before the
+// right, both tables stay as they were, and the line that says so, the only one then, is written at the start of the lent one.
 pub fn begin(
     left: &[u8],
     ltable: &mut [u64; 8192],
@@ -47,16 +48,18 @@ pub fn begin(
 ) -> Begun
     ensures { λ r. ⌜ BegunAs (openedHere (now (left .entry))) (openedHere (now (right .entry))) r (now (ltable .entry)) (now (ltable .exit)) (now (rtable .entry)) (now (rtable .exit)) (now (line .entry)) (now (line .exit)) ⌝ }
 {
-    let opened = listing::open(left, ltable);
-    let other = listing::open(right, rtable);
+    let opened = opening::open_plain(left);
     let Opened::Column(column, _) = opened else {
         let number = refusal_number(opened) as u64;
         return Begun::Refused(named_line(b"left refused ", number, line));
     };
+    let other = opening::open_plain(right);
     let Opened::Column(against, _) = other else {
         let number = refusal_number(other) as u64;
         return Begun::Refused(named_line(b"right refused ", number, line));
     };
+    opening::fill(left, opened, ltable);
+    opening::fill(right, other, rtable);
     Begun::Columns(column, against)
 }
 
@@ -81,8 +84,8 @@ pub fn fill_lines(
     rbytes: &[u8],
     from: u32,
     out: &mut [u8],
-) -> Filled
-    ensures { λ r. ⌜ r ≡ filled (rowAt left (now (ltable .entry)) (now (lbytes .entry))) (rowAt right (now (rtable .entry)) (now (rbytes .entry))) (max (left .rows) (right .rows)) (length (now (out .entry))) from ⌝ }
+) -> Compared
+    ensures { λ r. ⌜ r ≡ comparedIn (rowAt left (now (ltable .entry)) (now (lbytes .entry))) (rowAt right (now (rtable .entry)) (now (rbytes .entry))) (max (left .rows) (right .rows)) (length (now (out .entry))) from ⌝ }
     ensures { λ _. ⌜ now (out .exit) ≡ sets (now (out .entry)) 0 (pairChunk (rowAt left (now (ltable .entry)) (now (lbytes .entry))) (rowAt right (now (rtable .entry)) (now (rbytes .entry))) (max (left .rows) (right .rows)) (length (now (out .entry))) from) ⌝ }
     ensures { λ r. ⌜ Counts (r .bytes) (now (out .exit)) ⌝ }
 {
@@ -98,7 +101,7 @@ pub fn fill_lines(
         done = lines::put_row(out, done, r, a, b);
         r += 1;
     }
-    Filled {
+    Compared {
         rows: r - from,
         lines: done.lines,
         bytes: done.bytes,

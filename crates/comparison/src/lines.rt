@@ -7,10 +7,10 @@ ghost use Rattle.format.specs.Refusals.{rowMeaning};
 ghost use Rattle.format.specs.Comparing.{equalAnswers, absent, sideText, pairLine};
 ghost use Rattle.comparison.specs.Chunk.{pairMax, pairText};
 use format::RowRead;
-use listing::lines::put_answer;
-use listing::put::put_byte;
-use listing::put::put_decimal;
-use listing::put::put_text;
+use text::lines::put_answer;
+use text::put::put_byte;
+use text::put::put_decimal;
+use text::put::put_text;
 
 // How far a chunk is filled: so many lines, of so many bytes.
 pub(crate) struct Done {
@@ -44,7 +44,7 @@ fn is_absent(answer: RowRead) -> bool
     }
 }
 
-// Writes what a line says of one side. Internal: twenty bytes have room there, and no answer takes more.
+// Internal: asks for room of twenty bytes, and no answer takes more. Writes what a line says of one side, and returns the offset behind it.
 fn put_side(out: &mut [u8], at: usize, answer: RowRead) -> usize
     requires { ⌜ at + 20 ≤ length (now out) ⌝ }
     ensures { λ r. ⌜ Wrote (now (out .entry)) at (sideText (rowMeaning answer)) (now (out .exit)) r ⌝ }
@@ -56,7 +56,7 @@ fn put_side(out: &mut [u8], at: usize, answer: RowRead) -> usize
     put_answer(out, at, answer)
 }
 
-// Writes a row's line at an offset, and returns the offset behind it. Internal: a longest line has room there.
+// Internal: asks for room for a longest line. Writes a row's line at an offset, and returns the offset behind it.
 fn put_pair(out: &mut [u8], at: usize, row: u32, left: RowRead, right: RowRead) -> usize
     requires { ⌜ at + pairMax ≤ length (now out) ⌝ }
     ensures { λ r. ⌜ Wrote (now (out .entry)) at (pairLine row (rowMeaning left) (rowMeaning right)) (now (out .exit)) r ⌝ }
@@ -70,7 +70,7 @@ fn put_pair(out: &mut [u8], at: usize, row: u32, left: RowRead, right: RowRead) 
     put_byte(out, end, b'\n')
 }
 
-// A row further: its line, where the answers differ. Internal: a longest line has room, and one more can be counted.
+// Internal: asks for room for a longest line, and that one more can be counted. A row further: its line, where the answers differ.
 pub(crate) fn put_row(out: &mut [u8], done: Done, row: u32, left: RowRead, right: RowRead) -> Done
     requires { ⌜ done .bytes + pairMax ≤ length (now out) ⌝ }
     requires { ⌜ done .lines + 1 < 2 ^ 32 ⌝ }

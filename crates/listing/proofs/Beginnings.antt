@@ -19,8 +19,9 @@ use Rattle.format.specs.Outcome.{Outcome, Outcome.value, Outcome.refusal, Wrote
 use Rattle.format.specs.Refusals.{openedMeaning}
 use Rattle.format.proofs.Outcomes.{value-same}
 use Rattle.format.specs.Calls.{OpenedAs}
+use Rattle.text.specs.Refused.{refusedBy}
 use Rattle.listing.specs.declared.Begun.the-variants.{Column as BegunColumn, Refused as BegunRefused}
-use Rattle.listing.specs.Beginning.{refusedBy, columnLine, BegunAs}
+use Rattle.listing.specs.Beginning.{columnLine, BegunAs}
 
 module _ {o : Outcome Loaded} {r : Opened} {before after old new : List ℕ} {n : ℕ} (found : OpenedAs o r before after) (shown : Counts n new) where
   pub begun-refused : {x : Refusal} {number : ℕ} → r ≡ Refused x → number ≡ refusedBy (openedMeaning r) → Wrote old 0 (namedLine (ascii "refused ") number) new n

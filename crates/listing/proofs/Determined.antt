@@ -1,5 +1,5 @@
 -- The contracts of the listing's calls determine what they answer and what every lent entry holds afterwards: two results that they allow coincide.
---     open-determined, begin-determined, fill-lines-determined, end-line-determined
+--     begin-determined, fill-lines-determined, end-line-determined
 -- Assumes nothing.
 use Prim.Native.Nat.{ℕ}
 use mathlib.Core.Path.{_≡_, sym, _∙_}
@@ -7,21 +7,14 @@ use mathlib.Core.List.{List}
 use lib.ListN.{length}
 use lib.Seq.{sets}
 use Rattle.format.specs.declared.Column.{Column}
-use Rattle.format.specs.declared.Opened.{Opened}
 use Rattle.format.specs.Listing.{ascii, namedLine, rowLine, openedHere}
 use Rattle.format.specs.Outcome.{Wrote}
 use Rattle.format.specs.Reading.{rowAt}
-use Rattle.format.proofs.Answers.{opened-injective}
-use Rattle.format.specs.Calls.{OpenedAs}
+use Rattle.text.specs.declared.Filled.{Filled}
+use Rattle.text.specs.Chunk.{chunk, filled}
 use Rattle.listing.specs.declared.Begun.{Begun}
-use Rattle.listing.specs.declared.Filled.{Filled}
 use Rattle.listing.specs.Beginning.{BegunAs}
-use Rattle.listing.specs.Chunk.{chunk, filled, lineMax}
-
--- two answers of `open`, and what the lent table holds afterwards
-pub open-determined : (s table : List ℕ) (a b : Opened) (after after′ : List ℕ)
-    → OpenedAs (openedHere s) a table after → OpenedAs (openedHere s) b table after′ → (a ≡ b) × (after ≡ after′)
-open-determined s table a b after after′ p q = (opened-injective a b (p .answer ∙ sym (q .answer)), p .table ∙ sym (q .table))
+use Rattle.listing.specs.Chunk.{lineMax}
 
 -- two answers of `begin`, and what the lent table and line hold afterwards
 pub begin-determined : (s table line : List ℕ) (a b : Begun) (after after′ new new′ : List ℕ)
@@ -31,7 +24,7 @@ begin-determined s table line a b after after′ new new′ p q = (p .answer ∙
 -- two answers of `fill_lines`, and what the lent buffer holds afterwards
 module _ (column : Column) (table bytes : List ℕ) (from : ℕ) (out : List ℕ) where
   abbrev answer : Filled
-  answer = filled (rowAt column table bytes) (column .rows) (length out) from
+  answer = filled (rowLine (rowAt column table bytes)) lineMax (column .rows) (length out) from
 
   abbrev written : List ℕ
   written = sets out 0 (chunk (rowLine (rowAt column table bytes)) lineMax (column .rows) (length out) from)

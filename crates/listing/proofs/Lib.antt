@@ -1,14 +1,9 @@
 -- Laws and theorems; the head of each file lists what it offers.
 
--- text
-pub mod Decimals
-pub mod Texts
--- opening, and how a listing begins
-pub mod Limits
+-- how a listing begins
 pub mod Beginnings
--- the rows' lines, chunk by chunk
-pub mod Chunks
-pub mod Filling
+-- a row's line
+pub mod RowLines
 -- what the calls come to
 pub mod Listings
 pub mod Determined

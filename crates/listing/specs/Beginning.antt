@@ -7,17 +7,11 @@ use lib.ListN.{length}
 use lib.Seq.{sets}
 use Rattle.io.specs.Counts.{Counts}
 use Rattle.format.specs.declared.Column.{Column}
-use Rattle.format.specs.declared.Spelling.{Spelling}
 use Rattle.format.specs.Listing.{ascii, namedLine, headLine, codeOf}
 use Rattle.format.specs.Opening.{Loaded, tableIn}
 use Rattle.format.specs.Outcome.{Outcome, Outcome.value, Outcome.refusal, stored}
 use Rattle.listing.specs.declared.Begun.{Begun}
 use Rattle.listing.specs.declared.Begun.the-variants.{Column as BegunColumn, Refused}
-
--- a refusal's number; 0 for none
-abbrev pub refusedBy : Outcome (Column × Spelling) → ℕ
-refusedBy (value a) = 0
-refusedBy (refusal number also) = number
 
 -- a column's first line
 unfoldable pub columnLine : Column → List ℕ

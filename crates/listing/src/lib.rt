@@ -1,29 +1,25 @@
 // A column as text: the first line, the rows' lines, as many at a time as a lent buffer has room for, and the last line. What is
 // refused is a line of its own. No argument makes a call fail, and each contract says what every lent entry holds afterwards.
-pub mod lines;
-pub mod put;
+mod lines;
 
 ghost use mathlib.Core.Path.{_≡_};
 ghost use lib.ListN.{length};
 ghost use lib.Seq.{sets};
 ghost use Rattle.io.specs.Counts.{Counts};
 ghost use Rattle.format.specs.Listing.{ascii, namedLine, rowLine, openedHere};
-ghost use Rattle.format.specs.Opening.{columnIn};
 ghost use Rattle.format.specs.Outcome.{Wrote};
 ghost use Rattle.format.specs.Reading.{rowAt};
-ghost use Rattle.format.specs.Calls.{OpenedAs};
 ghost use Rattle.listing.specs.Beginning.{BegunAs};
-ghost use Rattle.listing.specs.Chunk.{chunk, filled, lineMax};
+ghost use Rattle.listing.specs.Chunk.{lineMax};
+ghost use Rattle.text.specs.Chunk.{chunk, filled};
 use format::Column;
 use format::ColumnRow;
 use format::Opened;
-use format::Refusal;
+use text::Filled;
+use text::lines::named_line;
+use text::lines::refusal_number;
 
-// The most bytes and rows that a listing takes, and the longest line of a row.
-const BYTES_MAX: usize = 65536;
-
-const ROWS_MAX: u32 = 1048576;
-
+// The longest line of a row.
 const LINE_MAX: usize = 32;
 
 // How a listing begins: with an opened column, or with a refusal, by its number; and the length of the line that says so.
@@ -32,43 +28,13 @@ pub enum Begun {
     Refused(u8, usize),
 }
 
-// What a chunk took: how many rows, and how many bytes their lines are.
-pub struct Filled {
-    pub rows: u32,
-    pub bytes: usize,
-}
-
-// Opens a column of at most 65,536 bytes and 1,048,576 rows, which is as many as the table has blocks for: a Blockwise column of more
-// rows is refused before the table is filled.
-pub fn open(bytes: &[u8], table: &mut [u64; 8192]) -> Opened
-    ensures { λ r. ⌜ OpenedAs (openedHere (now (bytes .entry))) r (now (table .entry)) (now (table .exit)) ⌝ }
-{
-    if BYTES_MAX < bytes.len() {
-        return Opened::Refused(Refusal::OverLimit);
-    }
-    let opened = u64_based::open(bytes, table);
-    match opened {
-        Opened::Column(column, _) => {
-            if ROWS_MAX < column.rows {
-                return Opened::Refused(Refusal::OverLimit);
-            }
-        }
-        Opened::Refused(refusal) => {
-            if refusal.number() == 11 {
-                return Opened::Refused(Refusal::OverLimit);
-            }
-        }
-    }
-    opened
-}
-
 // Begins a listing: opens the column, and writes the first line at the start of the lent one. A refusal's line is the only one.
 pub fn begin(bytes: &[u8], table: &mut [u64; 8192], line: &mut [u8; 128]) -> Begun
     ensures { λ r. ⌜ BegunAs (openedHere (now (bytes .entry))) r (now (table .entry)) (now (table .exit)) (now (line .entry)) (now (line .exit)) ⌝ }
 {
-    let opened = open(bytes, table);
+    let opened = text::opening::open(bytes, table);
     let Opened::Column(column, _) = opened else {
-        let number = lines::refusal_number(opened);
+        let number = refusal_number(opened);
         return Begun::Refused(number, lines::refused_line(number, line));
     };
     let codec = column.codec;
@@ -89,7 +55,7 @@ pub fn begin(bytes: &[u8], table: &mut [u64; 8192], line: &mut [u8; 128]) -> Beg
 // Writes the lines of the rows from `from` on at the start of a buffer, while a longest line has room. A row that is refused has a line that
 // says so.
 pub fn fill_lines(column: Column, table: &[u64], bytes: &[u8], from: u32, out: &mut [u8]) -> Filled
-    ensures { λ r. ⌜ r ≡ filled (rowAt column (now (table .entry)) (now (bytes .entry))) (column .rows) (length (now (out .entry))) from ⌝ }
+    ensures { λ r. ⌜ r ≡ filled (rowLine (rowAt column (now (table .entry)) (now (bytes .entry)))) lineMax (column .rows) (length (now (out .entry))) from ⌝ }
     ensures { λ _. ⌜ now (out .exit) ≡ sets (now (out .entry)) 0 (chunk (rowLine (rowAt column (now (table .entry)) (now (bytes .entry)))) lineMax (column .rows) (length (now (out .entry))) from) ⌝ }
     ensures { λ r. ⌜ Counts (r .bytes) (now (out .exit)) ⌝ }
 {
@@ -118,5 +84,5 @@ pub fn end_line(column: Column, line: &mut [u8; 128]) -> usize
     ensures { λ r. ⌜ Wrote (now (line .entry)) 0 (namedLine (ascii "end ") (column .rows)) (now (line .exit)) r ⌝ }
     ensures { λ r. ⌜ Counts r (now (line .exit)) ⌝ }
 {
-    lines::named_line(b"end ", column.rows as u64, line)
+    named_line(b"end ", column.rows as u64, line)
 }

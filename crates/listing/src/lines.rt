@@ -1,19 +1,19 @@
-// The listing's lines: the first, a name and a number, and a row's.
+// The listing's lines: the first, a refusal's, and a row's.
 ghost use mathlib.Core.Path.{_≡_};
 ghost use Prim.Native.Nat.{ℕ, _+_, _≤_};
 ghost use lib.ListN.{length};
 ghost use Rattle.io.specs.Counts.{Counts};
 ghost use Rattle.format.specs.Outcome.{Wrote};
-ghost use Rattle.format.specs.Refusals.{openedMeaning, rowMeaning};
-ghost use Rattle.format.specs.Listing.{ascii, namedLine, headLine, answerText, rowLine, codeOf};
-ghost use Rattle.listing.specs.Beginning.{refusedBy};
+ghost use Rattle.format.specs.Refusals.{rowMeaning};
+ghost use Rattle.format.specs.Listing.{ascii, namedLine, headLine, rowLine, codeOf};
 ghost use Rattle.listing.specs.Chunk.{lineMax};
-use crate::put::put_byte;
-use crate::put::put_decimal;
-use crate::put::put_named;
 use format::Codec;
-use format::Opened;
 use format::RowRead;
+use text::lines::named_line;
+use text::lines::put_answer;
+use text::put::put_byte;
+use text::put::put_decimal;
+use text::put::put_named;
 
 // A codec's number.
 pub(crate) fn code_of(codec: Codec) -> u8
@@ -23,16 +23,6 @@ pub(crate) fn code_of(codec: Codec) -> u8
         Codec::Bitpacked => 0,
         Codec::Linear(_, _) => 1,
         Codec::Blockwise => 2,
-    }
-}
-
-// The number of a refused opening; an opened column has none, and 0 stands for it.
-pub fn refusal_number(opened: Opened) -> u8
-    ensures { λ r. ⌜ r ≡ refusedBy (openedMeaning opened) ⌝ }
-{
-    match opened {
-        Opened::Column(_, _) => 0,
-        Opened::Refused(refusal) => refusal.number(),
     }
 }
 
@@ -64,17 +54,7 @@ pub(crate) fn refused_line(number: u8, out: &mut [u8; 128]) -> usize
     named_line(b"refused ", number as u64, out)
 }
 
-// Writes a name and a number as a line, and returns its length. Internal: the name has at most a hundred bytes, so that the line has room.
-pub fn named_line(name: &[u8], n: u64, out: &mut [u8; 128]) -> usize
-    requires { ⌜ length (now name) ≤ 100 ⌝ }
-    ensures { λ r. ⌜ Wrote (now (out .entry)) 0 (namedLine (now (name .entry)) n) (now (out .exit)) r ⌝ }
-    ensures { λ r. ⌜ Counts r (now (out .exit)) ⌝ }
-{
-    let at = put_named(out, 0, name, n);
-    put_byte(out, at, b'\n')
-}
-
-// Writes a row's line at an offset, and returns the offset behind it. Internal: a longest line has room there.
+// Internal: asks for room for a longest line. Writes a row's line at an offset, and returns the offset behind it.
 pub(crate) fn put_row(out: &mut [u8], at: usize, row: u32, answer: RowRead) -> usize
     requires { ⌜ at + lineMax ≤ length (now out) ⌝ }
     ensures { λ r. ⌜ Wrote (now (out .entry)) at (rowLine (λ (_ : ℕ). rowMeaning answer) row) (now (out .exit)) r ⌝ }
@@ -84,16 +64,4 @@ pub(crate) fn put_row(out: &mut [u8], at: usize, row: u32, answer: RowRead) -> u
     let space = put_byte(out, number, b' ');
     let end = put_answer(out, space, answer);
     put_byte(out, end, b'\n')
-}
-
-// Writes what a row's line says of its row. Internal: twenty bytes have room there, and no answer takes more.
-pub fn put_answer(out: &mut [u8], at: usize, answer: RowRead) -> usize
-    requires { ⌜ at + 20 ≤ length (now out) ⌝ }
-    ensures { λ r. ⌜ Wrote (now (out .entry)) at (answerText (rowMeaning answer)) (now (out .exit)) r ⌝ }
-    ensures { λ r. ⌜ r ≤ at + 20 ⌝ }
-{
-    match answer {
-        RowRead::Value(v) => put_decimal(out, at, v),
-        RowRead::Refused(refusal) => put_named(out, at, b"refused ", refusal.number() as u64),
-    }
 }

@@ -2,22 +2,26 @@
 --     opened-none, opened-unknown, opened-known         the code byte decides first; a known one leaves the head and the body
 --     body-blockwise                                    the body of a code that is neither 0 nor 1
 --     Tabled, opened-tabled                             the blocks of the rows that an answer has in the table were checked, fit the room, and are the rule's numbers
+--     finds-itself, table-itself                        what opening finds, as an answer to itself
 -- Assumes nothing.
 use Prim.Native.Nat.{ℕ, zero, suc, _/_, _≤_, _<_}
-use mathlib.Core.Path.{_≡_, refl}
+use mathlib.Core.Path.{_≡_, refl, sym, _∙_}
 use mathlib.Core.List.{List, [], _∷_}
 use native.Mathlib.Omega.{arith}
 use lib.ListN.{length, getD}
 use borrow.Author.Tests.{le-leb, lt-leb}
+use Rattle.format.specs.declared.Column.{Column}
 use Rattle.format.specs.declared.Fields.{Fields}
 use Rattle.format.specs.declared.Head.{Head}
+use Rattle.format.specs.declared.Spelling.{Spelling}
 use Rattle.format.specs.declared.Spelling.the-variants.{Shortest}
 use Rattle.format.specs.Outcome.{Outcome, Outcome.value, Outcome.refusal, _>>=_, stored}
 use Rattle.format.specs.Stats.{readHead}
 use Rattle.format.specs.Opening.{Loaded, Table, readBlocks, openBlockwise, openBody, opened, columnIn, tableIn}
 use Rattle.format.proofs.Openings.{OpensBitpacked, OpensLinear, OpensBlockwise, by-opening}
+use Rattle.format.proofs.Outcomes.{not-value, value-same}
 use Rattle.blockwise_linear.specs.Reader.{firstCursor, blocksFrom, numbersIn, Fillable}
-use Rattle.u64_based.specs.Opening.{tabled}
+use Rattle.u64_based.specs.Opening.{tabled, tableFor, Finds}
 
 -- ---- the code byte
 
@@ -44,9 +48,9 @@ body-blockwise (suc (suc c)) s h room n0 n1 = refl
 
 -- ---- the table
 
-pub record Tabled (s : List ℕ) (room : ℕ) (o : Outcome Loaded) : Type 0 where
-  pub fillable : (long : ℕ) → room ≡ long / 4 → Fillable s (tabled (columnIn o)) long
-  pub same : (l : List ℕ) → stored (numbersIn (blocksFrom s (firstCursor s (tabled (columnIn o))))) l ≡ stored (tableIn o) l
+pub record Tabled (s : List ℕ) (room : ℕ) (o : Outcome Loaded) (answer : Outcome (Column × Spelling)) : Type 0 where
+  pub fillable : (long : ℕ) → room ≡ long / 4 → Fillable s (tabled answer) long
+  pub same : (l : List ℕ) → stored (numbersIn (blocksFrom s (firstCursor s (tabled answer)))) l ≡ stored (tableFor o answer) l
 
 -- no rows have no blocks
 none-fillable : (s : List ℕ) (long : ℕ) → Fillable s 0 long
@@ -57,17 +61,26 @@ none-same : (s l : List ℕ) → stored (numbersIn (blocksFrom s (firstCursor s 
 unfolding readBlocks
 none-same s l = refl
 
-pub opened-tabled : (s : List ℕ) (room : ℕ) → Tabled s room (opened s room)
-opened-tabled s room = go (opened s room) refl
+pub opened-tabled : (s : List ℕ) (room : ℕ) (answer : Outcome (Column × Spelling)) → Finds (opened s room) answer → Tabled s room (opened s room) answer
+opened-tabled s room (refusal n also) finds = record { fillable = λ long fit. none-fillable s long; same = none-same s }
+opened-tabled s room (value a) finds = go (opened s room) refl (finds a refl)
   where
-    go : (o : Outcome Loaded) → opened s room ≡ o → Tabled s room o
-    go (value o) e =
-        by-opening (λ (o : Loaded). Tabled s room (value o)) s room
+    go : (o : Outcome Loaded) → opened s room ≡ o → columnIn o ≡ value a → Tabled s room o (value a)
+    go (refusal n also) e is = absurd (not-value is)
+    go (value o) e is = rw (← value-same is)
+        (by-opening (λ (o : Loaded). Tabled s room (value o) (value (o .column, o .spelling))) s room
         (λ (h : Head) (f : OpensBitpacked s h). record { fillable = λ long fit. none-fillable s long; same = none-same s })
         (λ (h : Head) (g : Fields) (f : OpensLinear s h g). record { fillable = λ long fit. none-fillable s long; same = none-same s })
         (λ (h : Head) (t : Table) (f : OpensBlockwise s h room t). record {
           fillable = λ (long : ℕ) (fit : room ≡ long / 4). record { checked = record { found = t; is = f .blocks }; enough = omega (arith, f .enough) };
           same = λ (l : List ℕ). rw (f .blocks);
         })
-        o e
-    go (refusal n also) e = record { fillable = λ long fit. none-fillable s long; same = none-same s }
+        o e)
+
+-- what opening finds, where that is the answer
+pub finds-itself : (o : Outcome Loaded) (answer : Outcome (Column × Spelling)) → answer ≡ columnIn o → Finds o answer
+finds-itself o answer is a e = sym is ∙ e
+
+pub table-itself : (o : Outcome Loaded) (answer : Outcome (Column × Spelling)) → answer ≡ columnIn o → tableFor o answer ≡ tableIn o
+table-itself (value l) answer is = rw is
+table-itself (refusal number also) answer is = rw is

@@ -1,7 +1,7 @@
 // A column of numbers of 64 bits: the entry points. No argument makes a call fail but by a numbered refusal, and each contract
 // says what a call answers and what every lent entry holds afterwards.
 mod finding;
-mod opening;
+pub mod opening;
 mod reader;
 mod runs;
 
@@ -99,8 +99,7 @@ pub fn open(bytes: &[u8], table: &mut [u64]) -> Opened
 {
     let room = table.len() / 4;
     let answer = open_plain(bytes, room);
-    let rows = opening::table_rows(answer);
-    blockwise_linear::reader::fill(bytes, rows, table);
+    opening::fill(bytes, answer, table);
     answer
 }
 

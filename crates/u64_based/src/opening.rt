@@ -1,8 +1,11 @@
-// The parts of opening: the body of a codec, and how many rows go to the table.
+// The parts of opening: the body of a codec, and the table of an answer.
 ghost use mathlib.Core.Path.{_≡_};
+ghost use Prim.Native.Nat.{_/_};
+ghost use lib.ListN.{length};
+ghost use Rattle.format.specs.Outcome.{stored};
 ghost use Rattle.format.specs.Refusals.{openedMeaning};
-ghost use Rattle.format.specs.Opening.{columnIn, openBody};
-ghost use Rattle.u64_based.specs.Opening.{tabled};
+ghost use Rattle.format.specs.Opening.{columnIn, openBody, opened};
+ghost use Rattle.u64_based.specs.Opening.{tabled, tableFor, Finds};
 use format::Codec;
 use format::Head;
 use format::Opened;
@@ -19,7 +22,7 @@ pub(crate) fn load(code: u8, bytes: &[u8], head: Head, room: usize) -> Opened
 }
 
 // The rows whose blocks go to the table: those of a Blockwise column.
-pub(crate) fn table_rows(opened: Opened) -> u32
+fn table_rows(opened: Opened) -> u32
     ensures { λ r. ⌜ r ≡ tabled (openedMeaning opened) ⌝ }
 {
     match opened {
@@ -33,4 +36,14 @@ pub(crate) fn table_rows(opened: Opened) -> u32
         }
         Opened::Refused(_) => 0,
     }
+}
+
+// Internal: asks that a column in the answer is what opening these bytes finds, for a table of this length. Puts its blocks into the table;
+// a refusal leaves the table as it was.
+pub fn fill(bytes: &[u8], answer: Opened, table: &mut [u64])
+    requires { ⌜ Finds (opened (now bytes) (length (now table) / 4)) (openedMeaning answer) ⌝ }
+    ensures { λ _. ⌜ now (table .exit) ≡ stored (tableFor (opened (now (bytes .entry)) (length (now (table .entry)) / 4)) (openedMeaning answer)) (now (table .entry)) ⌝ }
+{
+    let rows = table_rows(answer);
+    blockwise_linear::reader::fill(bytes, rows, table);
 }

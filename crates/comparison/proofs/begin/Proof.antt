@@ -1,15 +1,15 @@
--- `begin` meets its contract: the line of the first side that does not open, or both columns.
+-- `begin` meets its contract: the line of the first side that does not open, or both columns with their tables.
 -- Assumes nothing.
-use Rattle.comparison.proofs.Beginnings.{begun-left, begun-right, begun-both}
+use mathlib.Core.Path.{sym}
 use borrow.Author.Needs.{needs}
+use Rattle.format.specs.Refusals.{openedMeaning}
+use Rattle.format.proofs.Outcomes.{told}
+use Rattle.comparison.proofs.Beginnings.{begun-left, begun-right, begun-both}
 use Rattle.comparison.proofs.begin.Statement.{statement}
 use Rattle.comparison.proofs.begin.Tie as tie
 
-open-requires : tie.Need-open-requires
-open-requires c κs = search needs
-
-open-requires-2 : tie.Need-open-requires-2
-open-requires-2 c κs = search needs
+open-plain-requires : tie.Need-open-plain-requires
+open-plain-requires c κs = search needs
 
 enum-known-opened : tie.Need-enum-known-opened
 enum-known-opened c = search needs
@@ -33,8 +33,10 @@ returns : tie.Need-returns
 returns c =
     let number = c .before .before .before in
     let told = number .before in
-    let o = told .before .before in
-    begun-left (o .before .before .«open» .ensures) (o .open2 .ensures) (told .enum-told .given .1) (number .refusal-number .ensures) (c .named-line .ensures .0) (c .named-line .ensures .1)
+    begun-left (told .before .before .open-plain .ensures) (told .enum-told .given .1) (number .refusal-number .ensures) (c .named-line .ensures .0) (c .named-line .ensures .1)
+
+open-plain-requires-2 : tie.Need-open-plain-requires-2
+open-plain-requires-2 c κs = search needs
 
 enum-known-other : tie.Need-enum-known-other
 enum-known-other c = search needs
@@ -58,22 +60,33 @@ returns-2 : tie.Need-returns-2
 returns-2 c =
     let number = c .before .before .before in
     let told = number .before in
-    let was = told .before .before .before in
-    let o = was .before .before in
-    begun-right (o .before .before .«open» .ensures) (o .open2 .ensures) (was .opened .given .1) (told .enum-told2 .given .1) (number .refusal-number2 .ensures) (c .named-line2 .ensures .0) (c .named-line2 .ensures .1)
+    let other = told .before .before in
+    let was = other .before .before in
+    begun-right (was .before .before .open-plain .ensures) (other .open-plain2 .ensures) (was .opened .given .1) (told .enum-told2 .given .1) (number .refusal-number2 .ensures) (c .named-line2 .ensures .0) (c .named-line2 .ensures .1)
+
+fill-requires : tie.Need-fill-requires
+fill-requires c κs =
+    let was = c .before .before .before .before .before .before in
+    sym (told openedMeaning (was .before .before .open-plain .ensures) (was .opened .given .1))
+
+fill-requires-2 : tie.Need-fill-requires-2
+fill-requires-2 c κs =
+    let is = c .before .before .before .before in
+    sym (told openedMeaning (is .before .before .open-plain2 .ensures) (is .other .given .1))
 
 returns-3 : tie.Need-returns-3
 returns-3 c =
-    let was = c .before .before .before .before in
-    let o = was .before .before in
-    begun-both (o .before .before .«open» .ensures) (o .open2 .ensures) (was .opened .given .1) (c .before .other .given .1)
+    let left = c .before .before in
+    let is = left .before .before .before in
+    let other = is .before .before in
+    let was = other .before .before in
+    begun-both (was .before .before .open-plain .ensures) (other .open-plain2 .ensures) (was .opened .given .1) (is .other .given .1) (left .fill .ensures) (c .fill2 .ensures)
 
 pub begin-spec : {M : Type 1} → statement M
 begin-spec =
     tie.close
     (tie.spec
-    open-requires
-    open-requires-2
+    open-plain-requires
     enum-known-opened
     enum-told
     refusal-number-requires
@@ -81,6 +94,7 @@ begin-spec =
     slice-aggregate-named-line
     named-line-requires
     returns
+    open-plain-requires-2
     enum-known-other
     enum-told-2
     refusal-number-requires-2
@@ -88,4 +102,6 @@ begin-spec =
     slice-aggregate-named-line-2
     named-line-requires-2
     returns-2
+    fill-requires
+    fill-requires-2
     returns-3)

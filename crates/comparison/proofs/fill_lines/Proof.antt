@@ -7,8 +7,8 @@ use native.Mathlib.Omega.{arith}
 use lib.ListN.{length}
 use denote.Ref.{now}
 use Rattle.format.specs.Reading.{rowAt}
-use Rattle.listing.proofs.Chunks.{chunk-none, chunk-full}
-use Rattle.listing.proofs.Texts.{counts}
+use Rattle.text.proofs.Chunks.{chunk-none, chunk-full}
+use Rattle.text.proofs.Texts.{counts}
 use Rattle.comparison.specs.Chunk.{pairRows}
 use Rattle.comparison.proofs.Filling.{Pairing, pairing-starts, pairing-few, pairing-more, pairing-answer, pairing-list}
 use Rattle.comparison.proofs.fill_lines.Statement.{statement}

@@ -4,9 +4,9 @@ use Prim.Native.Nat.{_-_, _≤_}
 use mathlib.Core.Path.{_≡_, ap}
 use native.Mathlib.Omega.{arith}
 use lib.ListN.{length}
-use Rattle.listing.specs.declared.Filled.{Filled}
 use Rattle.listing.specs.Chunk.{lineMax}
-use Rattle.listing.proofs.Chunks.{Took, took}
+use Rattle.text.specs.declared.Filled.{Filled}
+use Rattle.text.proofs.Chunks.{Took, took}
 use Rattle.list.proofs.write_rows.Statement.{statement}
 use Rattle.list.proofs.write_rows.Tie as tie
 

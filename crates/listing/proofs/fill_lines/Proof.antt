@@ -8,10 +8,12 @@ use lib.ListN.{length}
 use denote.Ref.{now}
 use Rattle.format.specs.Listing.{rowLine}
 use Rattle.format.specs.Reading.{rowAt}
-use Rattle.listing.specs.Chunk.{chunkRows, lineMax}
-use Rattle.listing.proofs.Chunks.{chunk-none, chunk-full}
-use Rattle.listing.proofs.Filling.{Filling, filling-starts, filling-more, filling-answer, filling-list, line-wrote}
-use Rattle.listing.proofs.Texts.{counts}
+use Rattle.text.specs.Chunk.{chunkRows}
+use Rattle.text.proofs.Chunks.{chunk-none, chunk-full}
+use Rattle.text.proofs.Filling.{Filling, filling-starts, filling-more, filling-answer, filling-list}
+use Rattle.text.proofs.Texts.{counts}
+use Rattle.listing.specs.Chunk.{lineMax}
+use Rattle.listing.proofs.RowLines.{line-wrote}
 use Rattle.listing.proofs.fill_lines.Statement.{statement}
 use Rattle.listing.proofs.fill_lines.Tie as tie
 
@@ -60,7 +62,7 @@ none-left c = ⊎-elim (λ w. chunk-none _ _ _ _ _ (w .left)) (λ w. chunk-full 
 returns : tie.Need-returns Inv-loop μ-loop
 returns c =
     let f = c .before .before .loop .inv in
-    (filling-answer _ f (none-left c), (filling-list f (none-left c), counts _ _ (omega arith)))
+    (filling-answer f (none-left c), (filling-list f (none-left c), counts _ _ (omega arith)))
 
 pub fill-lines-spec : {M : Type 1} → statement M
 fill-lines-spec =

@@ -1,42 +1,29 @@
--- `u64_based::open` meets its contract: the rows that the answer has in the table were checked, and what is filled in are the rule's numbers.
+-- `u64_based::open` meets its contract: the table is that of its own answer.
 -- Assumes nothing.
-use mathlib.Core.Path.{_≡_, refl, ap, _∙_}
+use mathlib.Core.Path.{ap, _∙_}
 use mathlib.Core.List.{List}
 use Prim.Native.Nat.{ℕ, _/_}
 use lib.ListN.{length}
 use denote.Ref.{now}
 use borrow.Author.Needs.{needs}
 use Rattle.format.specs.Outcome.{Outcome, stored}
-use Rattle.format.specs.Opening.{Loaded, columnIn, opened}
-use Rattle.blockwise_linear.specs.Reader.{firstCursor, blocksFrom, numbersIn}
-use Rattle.u64_based.specs.Opening.{tabled}
-use Rattle.u64_based.proofs.Opens.{opened-tabled}
+use Rattle.format.specs.Opening.{Loaded, opened}
+use Rattle.u64_based.proofs.Opens.{finds-itself, table-itself}
 use Rattle.u64_based.proofs.open.Statement.{statement}
 use Rattle.u64_based.proofs.open.Tie as tie
 
--- the arguments, and what the rule finds
-abbrev bytes : tie.After-table-rows → List ℕ
-bytes c = now (c .before .before .before .before .args .bytes)
+-- the table, and what the rule finds
+abbrev table : tie.After-open-plain → List ℕ
+table c = now (c .before .before .before .args .table)
 
-abbrev table : tie.After-table-rows → List ℕ
-table c = now (c .before .before .before .before .args .table)
-
-abbrev found : tie.After-table-rows → Outcome Loaded
-found c = opened (bytes c) (length (table c) / 4)
-
-rows-are : (c : tie.After-table-rows) → c .table-rows .result ≡ tabled (columnIn (found c))
-rows-are c = c .table-rows .ensures ∙ ap tabled (c .before .open-plain .ensures)
+abbrev found : tie.After-open-plain → Outcome Loaded
+found c = opened (now (c .before .before .before .args .bytes)) (length (table c) / 4)
 
 open-plain-requires : tie.Need-open-plain-requires
 open-plain-requires c κs = search needs
 
-table-rows-requires : tie.Need-table-rows-requires
-table-rows-requires c κs = search needs
-
 fill-requires : tie.Need-fill-requires
-fill-requires c κs =
-    let t = c .before in
-    rw (rows-are t) (opened-tabled (bytes t) (length (table t) / 4) .fillable (length (table t)) refl)
+fill-requires c κs = finds-itself (found (c .before)) _ (c .before .open-plain .ensures)
 
 same-length : tie.Need-same-length
 same-length c = search needs
@@ -44,21 +31,11 @@ same-length c = search needs
 returns : tie.Need-returns
 returns c =
     let f = c .before .before in
-    let t = f .before .before in
+    let o = f .before .before in
     record {
-      answer = t .before .open-plain .ensures;
-      table =
-          f .fill .ensures
-          ∙ ap (λ (rows : ℕ). stored (numbersIn (blocksFrom (bytes t) (firstCursor (bytes t) rows))) (table t)) (rows-are t)
-          ∙ opened-tabled (bytes t) (length (table t) / 4) .same (table t);
+      answer = o .open-plain .ensures;
+      table = f .fill .ensures ∙ ap (λ (numbers : Outcome (List ℕ)). stored numbers (table o)) (table-itself (found o) _ (o .open-plain .ensures));
     }
 
 pub open-spec : {M : Type 1} → statement M
-open-spec =
-    tie.close
-    (tie.spec
-    open-plain-requires
-    table-rows-requires
-    fill-requires
-    same-length
-    returns)
+open-spec = tie.close (tie.spec open-plain-requires fill-requires same-length returns)

@@ -1,6 +1,7 @@
 -- `are_equal` meets its contract: by the cases of both answers.
 -- Assumes nothing.
 use borrow.Author.Needs.{needs}
+use Rattle.comparison.proofs.Answers.{refused-equal}
 use Rattle.comparison.proofs.lines.are_equal.Statement.{statement}
 use Rattle.comparison.proofs.lines.are_equal.Tie as tie
 
@@ -38,7 +39,7 @@ returns-3 : tie.Need-returns-3
 returns-3 c = rw (c .before .before .before .left2 .given .1, c .enum-told2 .given .1)
 
 returns-4 : tie.Need-returns-4
-returns-4 c = rw (c .before .before .before .before .before .before .left2 .given .1, c .before .before .before .right2 .given .1, c .before .number .ensures, c .number2 .ensures)
+returns-4 c = refused-equal (c .before .before .before .before .before .before .left2 .given .1) (c .before .before .before .right2 .given .1) (c .before .number .ensures) (c .number2 .ensures)
 
 pub are-equal-spec : {M : Type 1} → statement M
 are-equal-spec =

@@ -3,7 +3,7 @@
 use native.Mathlib.Omega.{arith}
 use Rattle.format.specs.Comparing.{pairLine}
 use Rattle.format.proofs.Stores.{wrote-then}
-use Rattle.listing.proofs.Decimals.{length-decimal}
+use Rattle.text.proofs.Decimals.{length-decimal}
 use borrow.Author.Needs.{needs}
 use Rattle.comparison.proofs.lines.put_pair.Statement.{statement}
 use Rattle.comparison.proofs.lines.put_pair.Tie as tie

@@ -6,7 +6,7 @@ use borrow.Author.Needs.{needs}
 use lib.ListN.{length}
 use Rattle.format.specs.Listing.{ascii, named, headLine}
 use Rattle.format.proofs.Stores.{wrote-then}
-use Rattle.listing.proofs.Texts.{named-most, counts}
+use Rattle.text.proofs.Texts.{named-most, counts}
 use Rattle.listing.proofs.lines.head_line.Statement.{statement}
 use Rattle.listing.proofs.lines.head_line.Tie as tie
 

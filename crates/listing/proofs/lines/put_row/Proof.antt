@@ -4,7 +4,7 @@ use native.Mathlib.Omega.{arith}
 use borrow.Author.Needs.{needs}
 use Rattle.format.specs.Listing.{rowLine}
 use Rattle.format.proofs.Stores.{wrote-then}
-use Rattle.listing.proofs.Decimals.{length-decimal}
+use Rattle.text.proofs.Decimals.{length-decimal}
 use Rattle.listing.proofs.lines.put_row.Statement.{statement}
 use Rattle.listing.proofs.lines.put_row.Tie as tie
 

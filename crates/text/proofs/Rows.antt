@@ -1,0 +1,80 @@
+-- What the rows of a column answer that a program opened.
+--     here-lacking        a row that it lacks: 12
+--     here-answers        a lent table that was filled answers as the opening's own numbers do
+--     here-sayable        an answer is one that a line has room for
+-- Assumes nothing.
+use Prim.Native.Nat.{ℕ, _+_, _*_, _/_, _%_, _^_, _≤_, _<_}
+use mathlib.Core.Path.{_≡_, refl, sym, _∙_}
+use mathlib.Core.Bool.{Bool, true, false, _&&_}
+use mathlib.Core.Logic.{⊎-elim}
+use mathlib.Core.List.{List, [], _∷_}
+use native.Mathlib.Nat.{mul-comm, mul-le-mul-left}
+use native.Mathlib.Omega.{arith}
+use borrow.Author.Tests.{le-ltb, leb-true}
+use lib.Dec.{leb}
+use lib.ListN.{length}
+use Rattle.format.specs.declared.Block.{Block}
+use Rattle.format.specs.declared.Codec.{Codec}
+use Rattle.format.specs.declared.Codec.the-variants.{Bitpacked, Linear, Blockwise}
+use Rattle.format.specs.declared.Column.{Column}
+use Rattle.format.specs.Outcome.{Outcome.value, Outcome.refusal, _>>_, demand}
+use Rattle.format.specs.Word.{modAdd}
+use Rattle.format.specs.Line.{lineAt}
+use Rattle.format.specs.Opening.{Loaded}
+use Rattle.format.specs.Reading.{blockAt, packedOf, valueIn, rowIn, rowAt}
+use Rattle.format.specs.Demands.{filledBy, answered}
+use Rattle.format.specs.Listing.{openedHere}
+use Rattle.format.proofs.Laid.{opened-laid}
+use Rattle.format.proofs.Lists.{below-or}
+use Rattle.format.proofs.Rows.{filled-row, answer-is}
+use Rattle.text.proofs.Limits.{here-opened}
+use Rattle.text.proofs.Texts.{Sayable}
+
+-- ---- a row of a column whose bounds fit 64 bits
+
+module _ (col : Column) (bounds : col .minimum + col .count * col .gcd < 2 ^ 64) where
+  scaled-sayable : (r multiple : ℕ) (test : Bool) → leb multiple (col .count) ≡ test
+      → Sayable (demand test 14 (r ∷ []) >> value (col .minimum + col .gcd * multiple))
+  scaled-sayable r multiple true e = omega (arith, mul-le-mul-left (col .gcd) (leb-true multiple (col .count) e), mul-comm (col .gcd) (col .count))
+  scaled-sayable r multiple false e = omega arith
+
+  wrapped-sayable : (r v : ℕ) (test : Bool) → v < 2 ^ 64 → Sayable (demand test 14 (r ∷ []) >> value v)
+  wrapped-sayable r v true h = h
+  wrapped-sayable r v false h = omega arith
+
+  value-sayable : (codec : Codec) (b : Block) (r n : ℕ) → Sayable (valueIn codec col b r n)
+  unfolding valueIn
+  value-sayable Bitpacked b r n = scaled-sayable r n (leb n (col .count)) refl
+  value-sayable (Linear l w) b r n =
+      let v = modAdd (lineAt l r) n in
+      wrapped-sayable r v (leb (col .minimum) v && leb v (col .minimum + col .gcd * col .count)) (omega arith)
+  value-sayable Blockwise b r n =
+      let multiple = modAdd (lineAt (b .line) (r % 512)) n in
+      scaled-sayable r multiple (leb multiple (col .count)) refl
+
+-- ---- a row of a column that a program opened
+
+module _ (s : List ℕ) (o : Loaded) (found : openedHere s ≡ value o) where
+  -- one that it lacks
+  pub here-lacking : (r : ℕ) (table : List ℕ) → o .column .rows ≤ r → rowAt (o .column) table s r ≡ refusal 12 []
+  unfolding rowIn
+  here-lacking r table h = simp (le-ltb r (o .column .rows) h)
+
+  -- by a lent table that was filled
+  pub here-answers : (table : List ℕ) → 8192 ≤ length table → (r : ℕ) → answered o table s r ≡ rowAt (o .column) (o .table) s r
+  here-answers table enough r =
+      ⊎-elim
+      (λ inside. let laid = opened-laid s 2048 o (here-opened s o found) in
+      filled-row o table s r (omega (arith, laid .table)) (laid .rows .present r inside))
+      (λ over. here-lacking r (filledBy o table) over ∙ sym (here-lacking r (o .table) over))
+      (below-or r (o .column .rows))
+
+  -- a value inside the column's bounds, 14, or 12
+  pub here-sayable : (table : List ℕ) → 8192 ≤ length table → (r : ℕ) → Sayable (answered o table s r)
+  here-sayable table enough r =
+      ⊎-elim
+      (λ inside. let laid = opened-laid s 2048 o (here-opened s o found) in
+      rw (answer-is laid s (omega arith) r inside table enough)
+      (value-sayable (o .column) (laid .head .bounds) (o .column .codec) (blockAt (o .table) (r / 512)) r (packedOf (o .column) (blockAt (o .table) (r / 512)) s r)))
+      (λ over. rw (here-lacking r (filledBy o table) over) (omega arith))
+      (below-or r (o .column .rows))
