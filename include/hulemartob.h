@@ -218,7 +218,7 @@ static inline size_t hulemartob_lookup_f64(const uint64_t column[10], const uint
     return hulemartob_lookup(column, table, table_len, bytes, bytes_len, range[0], range[1], first, end, found, found_len, refusal);
 }
 
-/* Runs: decoded in place, then read. */
+/* Runs: decoded in place, then read. (Bools take less room than words: decode words, and read each by hulemartob_bool_of.) */
 static inline size_t hulemartob_run_i64(const uint64_t column[10], const uint64_t *table, size_t table_len, const uint8_t *bytes,
                                         size_t bytes_len, uint32_t first, int64_t *out, size_t out_len, uint64_t refusal[2]) {
     size_t many = hulemartob_run(column, table, table_len, bytes, bytes_len, first, (uint64_t *)out, out_len, refusal);
