@@ -1,4 +1,5 @@
 /* Columns of 64-bit numbers in the format of tantivy-columnar 0.27.0 (u64_based): statistics, writing, opening, reading, looking up.
+ * Columns of signed numbers, dates, bools and floats are the second half of this file.
  *
  * Link with libcolumn_c.a, x86-64 code that `rt staticlib column_c` writes to target/staticlib. It needs no other library.
  *
@@ -51,8 +52,10 @@
 #ifndef HULEMARTOB_H
 #define HULEMARTOB_H
 
+#include <stdbool.h>
 #include <stddef.h>
 #include <stdint.h>
+#include <string.h>
 
 #ifdef __cplusplus
 extern "C" {
@@ -90,6 +93,150 @@ size_t hulemartob_lookup(const uint64_t column[10], const uint64_t *table, size_
  * was. Refused 12 before all else if the run leaves the rows; then the first row of it that hulemartob_row refuses decides (13, 14). */
 size_t hulemartob_run(const uint64_t column[10], const uint64_t *table, size_t table_len, const uint8_t *bytes, size_t bytes_len,
                       uint32_t first, uint64_t *out, size_t out_len, uint64_t refusal[2]);
+
+/* ---- columns of signed numbers, dates, bools and floats
+ *
+ * The bytes are the same; a kind says how a stored number reads, and the bytes do not tell it.
+ *
+ *    kind               a value is lent as                    stored as
+ *    HULEMARTOB_U64     itself                                itself
+ *    HULEMARTOB_I64     its two's complement bits             v + 2^63
+ *    HULEMARTOB_DATE    those of its signed nanoseconds       the same
+ *    HULEMARTOB_BOOL    0, or any other word for true         0 or 1; any stored number above 0 reads as true
+ *    HULEMARTOB_F64     its bits, a NaN's too                 all bits inverted if the sign bit is set, else with the sign bit set
+ *
+ * These mappings keep order: stored numbers are ordered as the values are, -0.0 directly under +0.0, NaNs beyond the infinity of their
+ * sign. All bits return, but of a bool only whether it is true.
+ *
+ * Any other number of a kind is refused 13 before anything else, as ten numbers that are no column are.
+ */
+#define HULEMARTOB_U64 0u
+#define HULEMARTOB_I64 1u
+#define HULEMARTOB_DATE 2u
+#define HULEMARTOB_BOOL 3u
+#define HULEMARTOB_F64 4u
+
+/* hulemartob_column_stats of the numbers that values of a kind are stored as. Refused 13, 1. */
+void hulemartob_column_stats_as(uint32_t kind, const uint64_t *values, size_t values_len, uint64_t stats[4], uint64_t refusal[2]);
+
+/* hulemartob_serialize of the numbers that values of a kind are stored as. Refused 13, 1 to 4. */
+size_t hulemartob_serialize_as(uint32_t kind, const uint64_t *values, size_t values_len, const uint8_t *codecs, size_t codecs_len,
+                               uint8_t *out, size_t out_len, uint64_t refusal[2]);
+
+/* What a stored number reads as: a signed number or a date's nanoseconds, a bool, the bits of a float. Never refused. */
+int64_t hulemartob_i64_of(uint64_t stored);
+bool hulemartob_bool_of(uint64_t stored);
+uint64_t hulemartob_f64_bits_of(uint64_t stored);
+
+/* The first and the last stored number of the values from `low` to `high`, for hulemartob_lookup: of signed numbers or dates, of bools,
+ * of floats by their bits. Where low is above high so are the stored numbers, and nothing lies between them. Never refused. */
+void hulemartob_i64_range(int64_t low, int64_t high, uint64_t range[2]);
+void hulemartob_bool_range(bool low, bool high, uint64_t range[2]);
+void hulemartob_f64_range(uint64_t low, uint64_t high, uint64_t range[2]);
+
+/* The same with C's types. These few lines are C: what they call is proved, they are not. Results and refusals are those of the function
+ * that they are named after; a row's value is 0, or false, on refusal.
+ *
+ * A list of int64_t or double is lent as it lies in memory. The library is no C code, so C's rule that an object is accessed by its own type
+ * does not reach into it; a double must have 64 bits, aligned as a uint64_t is, as on x86-64. A list of bools has to be made of words. */
+
+static inline size_t hulemartob_serialize_i64(const int64_t *values, size_t values_len, const uint8_t *codecs, size_t codecs_len,
+                                              uint8_t *out, size_t out_len, uint64_t refusal[2]) {
+    return hulemartob_serialize_as(HULEMARTOB_I64, (const uint64_t *)values, values_len, codecs, codecs_len, out, out_len, refusal);
+}
+
+static inline size_t hulemartob_serialize_dates(const int64_t *nanoseconds, size_t values_len, const uint8_t *codecs, size_t codecs_len,
+                                                uint8_t *out, size_t out_len, uint64_t refusal[2]) {
+    return hulemartob_serialize_as(HULEMARTOB_DATE, (const uint64_t *)nanoseconds, values_len, codecs, codecs_len, out, out_len, refusal);
+}
+
+static inline size_t hulemartob_serialize_f64(const double *values, size_t values_len, const uint8_t *codecs, size_t codecs_len,
+                                              uint8_t *out, size_t out_len, uint64_t refusal[2]) {
+    return hulemartob_serialize_as(HULEMARTOB_F64, (const uint64_t *)(const void *)values, values_len, codecs, codecs_len, out, out_len,
+                                   refusal);
+}
+
+static inline double hulemartob_f64_of(uint64_t stored) {
+    uint64_t bits = hulemartob_f64_bits_of(stored);
+    double value;
+    memcpy(&value, &bits, sizeof value);
+    return value;
+}
+
+static inline int64_t hulemartob_row_i64(const uint64_t column[10], const uint64_t *table, size_t table_len, const uint8_t *bytes,
+                                         size_t bytes_len, uint32_t row, uint64_t refusal[2]) {
+    uint64_t stored = hulemartob_row(column, table, table_len, bytes, bytes_len, row, refusal);
+    return refusal[0] ? 0 : hulemartob_i64_of(stored);
+}
+
+static inline int64_t hulemartob_row_date(const uint64_t column[10], const uint64_t *table, size_t table_len, const uint8_t *bytes,
+                                          size_t bytes_len, uint32_t row, uint64_t refusal[2]) {
+    return hulemartob_row_i64(column, table, table_len, bytes, bytes_len, row, refusal);
+}
+
+static inline bool hulemartob_row_bool(const uint64_t column[10], const uint64_t *table, size_t table_len, const uint8_t *bytes,
+                                       size_t bytes_len, uint32_t row, uint64_t refusal[2]) {
+    return hulemartob_bool_of(hulemartob_row(column, table, table_len, bytes, bytes_len, row, refusal));
+}
+
+static inline double hulemartob_row_f64(const uint64_t column[10], const uint64_t *table, size_t table_len, const uint8_t *bytes,
+                                        size_t bytes_len, uint32_t row, uint64_t refusal[2]) {
+    uint64_t stored = hulemartob_row(column, table, table_len, bytes, bytes_len, row, refusal);
+    return refusal[0] ? 0.0 : hulemartob_f64_of(stored);
+}
+
+static inline size_t hulemartob_lookup_i64(const uint64_t column[10], const uint64_t *table, size_t table_len, const uint8_t *bytes,
+                                           size_t bytes_len, int64_t low, int64_t high, uint32_t first, uint32_t end, uint32_t *found,
+                                           size_t found_len, uint64_t refusal[2]) {
+    uint64_t range[2];
+    hulemartob_i64_range(low, high, range);
+    return hulemartob_lookup(column, table, table_len, bytes, bytes_len, range[0], range[1], first, end, found, found_len, refusal);
+}
+
+static inline size_t hulemartob_lookup_date(const uint64_t column[10], const uint64_t *table, size_t table_len, const uint8_t *bytes,
+                                            size_t bytes_len, int64_t low, int64_t high, uint32_t first, uint32_t end, uint32_t *found,
+                                            size_t found_len, uint64_t refusal[2]) {
+    return hulemartob_lookup_i64(column, table, table_len, bytes, bytes_len, low, high, first, end, found, found_len, refusal);
+}
+
+static inline size_t hulemartob_lookup_bool(const uint64_t column[10], const uint64_t *table, size_t table_len, const uint8_t *bytes,
+                                            size_t bytes_len, bool low, bool high, uint32_t first, uint32_t end, uint32_t *found,
+                                            size_t found_len, uint64_t refusal[2]) {
+    uint64_t range[2];
+    hulemartob_bool_range(low, high, range);
+    return hulemartob_lookup(column, table, table_len, bytes, bytes_len, range[0], range[1], first, end, found, found_len, refusal);
+}
+
+/* By the stored numbers: from +0.0 to +0.0 no -0.0 is found, and bounds may be NaNs. */
+static inline size_t hulemartob_lookup_f64(const uint64_t column[10], const uint64_t *table, size_t table_len, const uint8_t *bytes,
+                                           size_t bytes_len, double low, double high, uint32_t first, uint32_t end, uint32_t *found,
+                                           size_t found_len, uint64_t refusal[2]) {
+    uint64_t bounds[2], range[2];
+    memcpy(&bounds[0], &low, sizeof low);
+    memcpy(&bounds[1], &high, sizeof high);
+    hulemartob_f64_range(bounds[0], bounds[1], range);
+    return hulemartob_lookup(column, table, table_len, bytes, bytes_len, range[0], range[1], first, end, found, found_len, refusal);
+}
+
+/* Runs: decoded in place, then read. (Bools take less room than words: decode words, and read each by hulemartob_bool_of.) */
+static inline size_t hulemartob_run_i64(const uint64_t column[10], const uint64_t *table, size_t table_len, const uint8_t *bytes,
+                                        size_t bytes_len, uint32_t first, int64_t *out, size_t out_len, uint64_t refusal[2]) {
+    size_t many = hulemartob_run(column, table, table_len, bytes, bytes_len, first, (uint64_t *)out, out_len, refusal);
+    for (size_t i = 0; i < many; i++) out[i] = hulemartob_i64_of((uint64_t)out[i]);
+    return many;
+}
+
+static inline size_t hulemartob_run_f64(const uint64_t column[10], const uint64_t *table, size_t table_len, const uint8_t *bytes,
+                                        size_t bytes_len, uint32_t first, double *out, size_t out_len, uint64_t refusal[2]) {
+    size_t many = hulemartob_run(column, table, table_len, bytes, bytes_len, first, (uint64_t *)(void *)out, out_len, refusal);
+    for (size_t i = 0; i < many; i++) {
+        uint64_t word;
+        memcpy(&word, &out[i], sizeof word);
+        word = hulemartob_f64_bits_of(word);
+        memcpy(&out[i], &word, sizeof word);
+    }
+    return many;
+}
 
 #ifdef __cplusplus
 }

@@ -7,7 +7,7 @@ use columnar::column_values::{load_u64_based_column_values, serialize_u64_based_
 use columnar::{CodecType, ColumnValues, OwnedBytes};
 use hulemartob::{Column, column_stats, most_bytes, serialize_into};
 
-use crate::inputs;
+use crate::{inputs, typed};
 
 type Work = Box<dyn FnMut() -> u64>;
 
@@ -19,10 +19,10 @@ pub struct Case {
     pub theirs: Work,
 }
 
-const CODECS: [(u8, &str); 3] = [(0, "Bitpacked"), (1, "Linear"), (2, "Blockwise")];
-const TYPES: [CodecType; 3] = [CodecType::Bitpacked, CodecType::Linear, CodecType::BlockwiseLinear];
+pub const CODECS: [(u8, &str); 3] = [(0, "Bitpacked"), (1, "Linear"), (2, "Blockwise")];
+pub const TYPES: [CodecType; 3] = [CodecType::Bitpacked, CodecType::Linear, CodecType::BlockwiseLinear];
 
-fn sum(values: impl Iterator<Item = u64>) -> u64 {
+pub fn sum(values: impl Iterator<Item = u64>) -> u64 {
     values.fold(0, |sum, value| sum.wrapping_add(value))
 }
 
@@ -155,6 +155,7 @@ pub fn all(rows: usize) -> Vec<Case> {
     }
     cases.push(writing("any codec: writing times".into(), inputs::times(rows), vec![0, 1, 2]));
     cases.push(writing("any codec: writing noise".into(), inputs::values(0, 32, rows), vec![0, 1, 2]));
+    cases.extend(typed::all(rows));
     cases
 }
 

@@ -6,6 +6,7 @@
 
 mod cases;
 mod inputs;
+mod typed;
 
 use std::hint::black_box;
 use std::time::Instant;

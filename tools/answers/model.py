@@ -352,11 +352,50 @@ def read_row(column, table, s, row):
     return column.minimum + column.gcd * n
 
 
-def look_up(column, table, s, low, high, first, end, room):
-    """The rows found; room is the length of the list that is lent for them."""
+# ---- kinds of values, each value a word of 64 bits: numbers, signed numbers and dates in two's complement, bools, floats by their bits
+
+U64, I64, DATE, BOOL, F64 = range(5)
+SIGN = 2**63
+
+
+def signed(word):
+    return word - WORD if word >= SIGN else word
+
+
+def stored(kind, word):
+    """The number that a value is stored as."""
+    if kind in (I64, DATE):
+        return signed(word) + SIGN
+    if kind == BOOL:
+        return int(word != 0)
+    if kind == F64:
+        return word ^ (WORD - 1) if word & SIGN else word ^ SIGN
+    return word
+
+
+def reads_as(kind, number):
+    """The value that a stored number reads as."""
+    if kind in (I64, DATE):
+        return (number - SIGN) % WORD
+    if kind == BOOL:
+        return int(number > 0)
+    if kind == F64:
+        return number ^ SIGN if number & SIGN else number ^ (WORD - 1)
+    return number
+
+
+def in_order(kind, word):
+    """What a lookup compares: signed numbers by their order, false before true, floats by the numbers that they are stored as."""
+    if kind in (I64, DATE):
+        return signed(word)
+    return stored(kind, word)
+
+
+def look_up(column, table, s, low, high, first, end, room, kind=U64):
+    """The rows found; room is the length of the list that is lent for them. The bounds are words of the kind."""
     rows = range(first, min(end, column.rows))
-    values = [(row, read_row(column, table, s, row)) for row in rows]
-    found = [row for row, value in values if low <= value <= high]
+    values = [(row, in_order(kind, reads_as(kind, read_row(column, table, s, row)))) for row in rows]
+    found = [row for row, value in values if in_order(kind, low) <= value <= in_order(kind, high)]
     demand(len(found) <= room, 15, len(found))
     return found
 

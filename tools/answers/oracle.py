@@ -22,12 +22,12 @@ def write_request(values, codecs):
     return f"write {spelled(codecs)} {' '.join(map(str, values))}"
 
 
-def load_request(s, limit):
-    return f"load u64 {s.hex() or '-'} {limit}"
+def load_request(s, limit, type="u64"):
+    return f"load {type} {s.hex() or '-'} {limit}"
 
 
-def find_request(s, low, high, first, end):
-    return f"find u64 {s.hex() or '-'} {low} {high} {first} {end}"
+def find_request(s, low, high, first, end, type="u64"):
+    return f"find {type} {s.hex() or '-'} {low} {high} {first} {end}"
 
 
 def loaded(answer):

@@ -53,8 +53,8 @@ def padded(s):
     return bytes(s) + bytes(-len(s) % 8)
 
 
-def record(kind, source, body):
-    return bytes([kind, source, 0, 0]) + (8 + len(body)).to_bytes(4, "little") + body
+def record(kind, source, body, values=0):
+    return bytes([kind, source, values, 0]) + (8 + len(body)).to_bytes(4, "little") + body
 
 
 def list_record(case):
@@ -62,7 +62,7 @@ def list_record(case):
     shown = column if len(column) <= PREFIX else column[:FIRST]
     numbers = [*case["rule"].numbers(), len(case["rule"].first), len(case["codecs"]), case["room"], *case["stats"]]
     numbers += [case["number"], case["also"], len(column), checksum(column), len(shown)]
-    return record(LIST, case["source"], words(numbers + case["rule"].first) + padded(case["codecs"]) + padded(shown))
+    return record(LIST, case["source"], words(numbers + case["rule"].first) + padded(case["codecs"]) + padded(shown), case["values"])
 
 
 def column_record(case):
@@ -134,9 +134,10 @@ def read_file(s):
     at = 0
     while at < len(s):
         kind, source, length = s[at], s[at + 1], int.from_bytes(s[at + 4 : at + 8], "little")
-        assert kind in (LIST, OPEN, MADE) and source in (MODEL, ORACLE) and s[at + 2 : at + 4] == bytes(2), "a record's first word"
+        values = s[at + 2]
+        assert kind in (LIST, OPEN, MADE) and source in (MODEL, ORACLE) and values <= 4 * (kind == LIST) and s[at + 3] == 0, "a record's first word"
         walk = Walk(s, at + 8, at + length)
         case = read_list(walk) if kind == LIST else read_column(walk)
         assert walk.at == walk.end, "a record has nothing left over"
-        yield {"kind": kind, "source": source, **case}
+        yield {"kind": kind, "source": source, "values": values, **case}
         at += length

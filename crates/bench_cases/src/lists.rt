@@ -1,5 +1,5 @@
 // The record LIST: the statistics of a list of values, its column as it is written, and the values as that column gives them back. Each function is
-// told the record's place.
+// told the record's place. Bytes 2 and 3 of its first word are the number of the values' kind.
 ghost use mathlib.Core.Path.{_≡_};
 ghost use lib.ListN.{length};
 use crate::answers::Outcome;
@@ -11,6 +11,7 @@ use crate::lent::BYTE;
 use crate::lent::bytes_kept;
 use crate::lent::numbers_stored;
 use crate::lent::starts_with;
+use crate::typed::kind_of;
 use crate::words::after;
 use crate::words::bytes_at;
 use crate::words::count_at;
@@ -19,6 +20,7 @@ use crate::words::word_at;
 use crate::words::words_for;
 use format::Column;
 use format::ColumnRow;
+use format::Kind;
 use format::Opened;
 use format::RowRead;
 use format::Stated;
@@ -89,9 +91,14 @@ fn checksum(s: &[u8]) -> u64 {
     sum
 }
 
+// The kind of the record's values.
+fn kind_at(file: &[u8], at: usize) -> Kind {
+    kind_of((word_at(file, at) >> 16) % 65536)
+}
+
 // Whether the statistics of the values are those that the record has.
 fn stats_stored(values: &[u64], file: &[u8], at: usize) -> bool {
-    let Stated::Stats(stats) = u64_based::column_stats(values) else {
+    let Stated::Stats(stats) = u64_based::column_stats_as(kind_at(file, at), values) else {
         return false;
     };
     let rows = stats.rows as u64;
@@ -99,20 +106,20 @@ fn stats_stored(values: &[u64], file: &[u8], at: usize) -> bool {
     numbers_stored(&numbers, 4, file, after(at, 11))
 }
 
-// Whether a row of an opened column is a value.
-fn row_is(column: Column, table: &[u64], bytes: &[u8], row: usize, value: u64) -> bool {
+// Whether a row of an opened column is what a value is stored as.
+fn row_is(column: Column, table: &[u64], bytes: &[u8], row: usize, kind: Kind, value: u64) -> bool {
     let row = ColumnRow((row % 0x1_0000_0000) as u32);
     match u64_based::row(column, table, bytes, row) {
-        RowRead::Value(read) => read == value,
+        RowRead::Value(read) => read == monotonic_mapping::stored_of(kind, value),
         RowRead::Refused(_) => false,
     }
 }
 
 // How many rows of an opened column are the values, up to the first that is not.
-fn rows_back(column: Column, table: &[u64], bytes: &[u8], values: &[u64]) -> usize {
+fn rows_back(column: Column, table: &[u64], bytes: &[u8], kind: Kind, values: &[u64]) -> usize {
     let mut i = 0;
     while i < values.len() {
-        if !row_is(column, table, bytes, i, values[i]) {
+        if !row_is(column, table, bytes, i, kind, values[i]) {
             break;
         }
         i += 1;
@@ -121,12 +128,12 @@ fn rows_back(column: Column, table: &[u64], bytes: &[u8], values: &[u64]) -> usi
 }
 
 // Opens a column that was written, and reads the values back.
-fn read_back(bytes: &[u8], values: &[u64]) -> Outcome {
+fn read_back(bytes: &[u8], kind: Kind, values: &[u64]) -> Outcome {
     let mut table = [0u64; 64];
     match u64_based::open(bytes, &mut table) {
         Opened::Column(column, spelling) => {
             let shortest = of_opening(spelling).also == 0;
-            let back = rows_back(column, &table, bytes, values);
+            let back = rows_back(column, &table, bytes, kind, values);
             Outcome {
                 rows: 0,
                 lookups: 0,
@@ -171,7 +178,8 @@ fn column_stored(column: &[u8], file: &[u8], at: usize) -> bool {
 
 // Writes the values into an output of marks, and reads back what was written.
 fn output_alike(values: &[u64], codecs: &[u8], out: &mut [u8], file: &[u8], at: usize) -> Outcome {
-    match u64_based::serialize(values, codecs, out) {
+    let kind = kind_at(file, at);
+    match u64_based::serialize_as(kind, values, codecs, out) {
         Written::Length(n) => {
             if out.len() < n {
                 return nothing_asked(false);
@@ -185,7 +193,7 @@ fn output_alike(values: &[u64], codecs: &[u8], out: &mut [u8], file: &[u8], at: 
             if !bytes_kept(out, n) {
                 return nothing_asked(false);
             }
-            read_back(&out[..n], values)
+            read_back(&out[..n], kind, values)
         }
         Written::Refused(why) => nothing_asked(
             refused(why).is_stored(file, after(at, 15))

@@ -5,6 +5,7 @@ mod columns;
 mod lent;
 mod lists;
 mod reading;
+mod typed;
 mod words;
 
 ghost use Prim.Native.Nat.{_≤_};
@@ -148,7 +149,8 @@ fn main() {
         .plus(replay_file(b"fields.cases"))
         .plus(replay_file(b"bounds.cases"));
     let reading = replay_file(b"made.cases").plus(replay_file(b"lookup.cases"));
-    let total = writing.plus(opening).plus(reading);
+    let typed = replay_file(b"typed.cases");
+    let total = writing.plus(opening).plus(reading).plus(typed);
     put(b"all: ");
     put_count(total.records, b" records, ");
     put_count(total.rows, b" rows, ");

@@ -1,4 +1,4 @@
-// The questions to a column: rows, and lookups.
+// The questions to a column: rows, and lookups. The upper half of a row, and of a lookup's first row, is the number of a kind, by which values are read.
 use crate::answers::Outcome;
 use crate::answers::of_row;
 use crate::answers::refused;
@@ -6,9 +6,13 @@ use crate::answers::success;
 use crate::lent::ROW;
 use crate::lent::rows_kept;
 use crate::lent::rows_stored;
+use crate::typed::kind_of;
+use crate::typed::range_as;
+use crate::typed::read_as;
 use crate::words::after;
 use crate::words::count_at;
 use crate::words::half_at;
+use crate::words::upper_at;
 use crate::words::word_at;
 use format::Column;
 use format::ColumnRow;
@@ -23,7 +27,9 @@ struct Walk {
 // Whether the row at a place is answered as stored.
 fn row_alike(column: Column, table: &[u64], bytes: &[u8], file: &[u8], at: usize) -> bool {
     let row = ColumnRow(half_at(file, at));
-    of_row(u64_based::row(column, table, bytes, row)).is_stored(file, after(at, 1))
+    let kind = kind_of(upper_at(file, at));
+    let read = u64_based::row(column, table, bytes, row);
+    of_row(read_as(kind, read)).is_stored(file, after(at, 1))
 }
 
 // Asks so many rows, up to the first that is answered otherwise.
@@ -56,12 +62,21 @@ fn found_alike(
     at: usize,
     found: &mut [u32],
 ) -> bool {
-    let low = word_at(file, at);
-    let high = word_at(file, after(at, 1));
+    let kind = kind_of(upper_at(file, after(at, 2)));
+    let range = range_as(kind, word_at(file, at), word_at(file, after(at, 1)));
     let first = half_at(file, after(at, 2));
     let end = half_at(file, after(at, 3));
     let stored = count_at(file, after(at, 7));
-    match u64_based::lookup(column, table, bytes, low, high, first, end, found) {
+    match u64_based::lookup(
+        column,
+        table,
+        bytes,
+        range.low,
+        range.high,
+        first,
+        end,
+        found,
+    ) {
         Found::Rows(n) => {
             n == stored
                 && success().is_stored(file, after(at, 5))

@@ -40,6 +40,11 @@ pub(crate) fn half_at(file: &[u8], at: usize) -> u32 {
     (word_at(file, at) % 0x1_0000_0000) as u32
 }
 
+// The upper half.
+pub(crate) fn upper_at(file: &[u8], at: usize) -> u64 {
+    word_at(file, at) >> 32
+}
+
 // A word that counts something in the file, cut to more than there can be.
 pub(crate) fn count_at(file: &[u8], at: usize) -> usize
     ensures { λ r. ⌜ r ≤ 65536 ⌝ }

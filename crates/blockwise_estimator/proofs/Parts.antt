@@ -15,11 +15,10 @@ use Rattle.format.specs.Packing.{packed}
 use Rattle.format.specs.Line.{spellLine}
 use Rattle.format.specs.Bodies.{blockArea, blockEntry}
 use Rattle.format.proofs.Lists.{front-length}
-use Rattle.format.proofs.WrittenBlocks.{length-area}
+use Rattle.format.proofs.WrittenBlocks.{length-area, residuals-fit}
 use Rattle.blockwise_estimator.specs.declared.Fit.{Fit}
 use Rattle.blockwise_estimator.specs.declared.Fronts.{Fronts}
 use Rattle.blockwise_estimator.specs.Writer.{normals, Part, Fitted, BlockTakes, Room, Places, Placed}
-use Rattle.format.proofs.WrittenBlocks.{residuals-fit}
 use Rattle.format.proofs.BlockBytes.{block-width, entry-length}
 use Rattle.blockwise_estimator.proofs.Blocks.{residuals-count}
 

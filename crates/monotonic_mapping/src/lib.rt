@@ -122,7 +122,7 @@ pub fn stored_of(kind: Kind, x: u64) -> u64
 // ---- reading
 
 // A stored number as a signed one, in two steps that stay in the range of signed numbers.
-fn signed_of(stored: u64) -> i64
+pub fn signed_of(stored: u64) -> i64
     ensures { λ r. ⌜ r ≡ signedOf stored ⌝ }
 {
     if stored >= SIGN {
@@ -132,8 +132,15 @@ fn signed_of(stored: u64) -> i64
     }
 }
 
+// A stored number as a bool.
+pub fn flag_of(stored: u64) -> bool
+    ensures { λ r. ⌜ r ≡ flagOf stored ⌝ }
+{
+    0 < stored
+}
+
 // The bits of the float that is stored as a number.
-fn float_of(stored: u64) -> u64
+pub fn float_of(stored: u64) -> u64
     ensures { λ r. ⌜ r ≡ floatOf stored ⌝ }
 {
     if stored < SIGN {
@@ -158,7 +165,7 @@ pub fn flag(read: RowRead) -> FlagRead
     ensures { λ r. ⌜ flagMeaning r ≡ readAs flagOf (rowMeaning read) ⌝ }
 {
     match read {
-        RowRead::Value(v) => FlagRead::Value(0 < v),
+        RowRead::Value(v) => FlagRead::Value(flag_of(v)),
         RowRead::Refused(why) => FlagRead::Refused(why),
     }
 }

@@ -5,7 +5,10 @@
 //! below has the same reason: every pointer comes from a reference that lives through the call, with its own length beside it, and
 //! what is lent as `&mut` is lent to nothing else.
 
-use crate::Refusal;
+use std::ops::RangeInclusive;
+use std::slice;
+
+use crate::{Date, Kind, Refusal};
 
 unsafe extern "C" {
     fn hulemartob_column_stats(values: *const u64, values_len: usize, stats: *mut [u64; 4], refusal: *mut [u64; 2]);
@@ -65,6 +68,31 @@ unsafe extern "C" {
         out_len: usize,
         refusal: *mut [u64; 2],
     ) -> usize;
+
+    fn hulemartob_column_stats_as(kind: u32, values: *const u64, values_len: usize, stats: *mut [u64; 4], refusal: *mut [u64; 2]);
+
+    fn hulemartob_serialize_as(
+        kind: u32,
+        values: *const u64,
+        values_len: usize,
+        codecs: *const u8,
+        codecs_len: usize,
+        out: *mut u8,
+        out_len: usize,
+        refusal: *mut [u64; 2],
+    ) -> usize;
+
+    safe fn hulemartob_i64_of(stored: u64) -> i64;
+
+    safe fn hulemartob_bool_of(stored: u64) -> bool;
+
+    safe fn hulemartob_f64_bits_of(stored: u64) -> u64;
+
+    fn hulemartob_i64_range(low: i64, high: i64, range: *mut [u64; 2]);
+
+    fn hulemartob_bool_range(low: bool, high: bool, range: *mut [u64; 2]);
+
+    fn hulemartob_f64_range(low: u64, high: u64, range: *mut [u64; 2]);
 }
 
 /// What a call answered, by the two numbers of its refusal.
@@ -158,4 +186,109 @@ pub(crate) fn run(column: &[u64; 10], table: &[u64], bytes: &[u8], first: u32, o
         )
     };
     answer(refusal, many)
+}
+
+// ---- values of a kind
+
+/// Types that are 64 bits in memory, whichever bits these are.
+///
+/// # Safety
+///
+/// The type has the size and the alignment of `u64`, no padding, and every pattern of 64 bits is a value of it.
+pub(crate) unsafe trait Bits {}
+
+// SAFETY: an integer of 64 bits.
+unsafe impl Bits for i64 {}
+
+// SAFETY: `repr(transparent)` over an `i64`.
+unsafe impl Bits for Date {}
+
+// SAFETY: a float of 64 bits; on x86-64 it is aligned like an integer.
+unsafe impl Bits for f64 {}
+
+/// A list as its words.
+pub(crate) fn words<T: Bits>(values: &[T]) -> &[u64] {
+    // SAFETY: `Bits`; the length is the list's own, and the words live and are shared as long as the list is.
+    unsafe { slice::from_raw_parts(values.as_ptr().cast(), values.len()) }
+}
+
+/// The same, to write to.
+pub(crate) fn words_mut<T: Bits>(values: &mut [T]) -> &mut [u64] {
+    // SAFETY: as above, and whatever words are written are values of the type.
+    unsafe { slice::from_raw_parts_mut(values.as_mut_ptr().cast(), values.len()) }
+}
+
+/// Nanoseconds as dates.
+pub(crate) fn dates(nanoseconds: &[i64]) -> &[Date] {
+    // SAFETY: `Date` is `repr(transparent)` over an `i64`.
+    unsafe { slice::from_raw_parts(nanoseconds.as_ptr().cast(), nanoseconds.len()) }
+}
+
+/// Minimum, maximum, gcd and rows of what values are stored as.
+pub(crate) fn column_stats_as(kind: Kind, values: &[u64]) -> Result<[u64; 4], Refusal> {
+    let (mut stats, mut refusal) = ([0; 4], [0; 2]);
+    // SAFETY: see the top of this file.
+    unsafe { hulemartob_column_stats_as(kind as u32, values.as_ptr(), values.len(), &mut stats, &mut refusal) };
+    answer(refusal, stats)
+}
+
+/// The length of the column of values of a kind that now stands in `out`.
+pub(crate) fn serialize_as(kind: Kind, values: &[u64], codecs: &[u8], out: &mut [u8]) -> Result<usize, Refusal> {
+    let mut refusal = [0; 2];
+    // SAFETY: see the top of this file.
+    let length = unsafe {
+        hulemartob_serialize_as(
+            kind as u32,
+            values.as_ptr(),
+            values.len(),
+            codecs.as_ptr(),
+            codecs.len(),
+            out.as_mut_ptr(),
+            out.len(),
+            &mut refusal,
+        )
+    };
+    answer(refusal, length)
+}
+
+/// What a stored number reads as: a signed number.
+#[inline]
+pub(crate) fn i64_of(stored: u64) -> i64 {
+    hulemartob_i64_of(stored)
+}
+
+/// A bool.
+#[inline]
+pub(crate) fn bool_of(stored: u64) -> bool {
+    hulemartob_bool_of(stored)
+}
+
+/// The bits of a float.
+#[inline]
+pub(crate) fn f64_bits_of(stored: u64) -> u64 {
+    hulemartob_f64_bits_of(stored)
+}
+
+/// The stored numbers of the signed numbers from low to high.
+pub(crate) fn i64_range(low: i64, high: i64) -> RangeInclusive<u64> {
+    let mut range = [0; 2];
+    // SAFETY: see the top of this file.
+    unsafe { hulemartob_i64_range(low, high, &mut range) };
+    range[0]..=range[1]
+}
+
+/// Of the bools.
+pub(crate) fn bool_range(low: bool, high: bool) -> RangeInclusive<u64> {
+    let mut range = [0; 2];
+    // SAFETY: see the top of this file.
+    unsafe { hulemartob_bool_range(low, high, &mut range) };
+    range[0]..=range[1]
+}
+
+/// Of the floats, by their bits.
+pub(crate) fn f64_range(low: u64, high: u64) -> RangeInclusive<u64> {
+    let mut range = [0; 2];
+    // SAFETY: see the top of this file.
+    unsafe { hulemartob_f64_range(low, high, &mut range) };
+    range[0]..=range[1]
 }

@@ -11,6 +11,19 @@
 //! # Ok::<(), hulemartob::Refusal>(())
 //! ```
 //!
+//! A column can also hold signed numbers, dates, bools and floats ([`Value`]): [`serialize_as`], [`Column::row_as`], [`Column::lookup_as`], and
+//! functions named by the kind.
+//!
+//! ```
+//! use hulemartob::{Codec, Column, serialize_i64};
+//!
+//! let bytes = serialize_i64(&[-10, 10, 0], &Codec::ALL)?;
+//! let column = Column::open(&bytes)?;
+//! assert_eq!(column.row_i64(0)?, -10);
+//! assert_eq!(column.lookup_i64(-10..=0, 0..column.rows())?, [0, 2]);
+//! # Ok::<(), hulemartob::Refusal>(())
+//! ```
+//!
 //! The code here passes numbers on to the static library of the crate `column_c`, and makes room for what it answers; nothing of the
 //! format is decided in Rust. The library is compiled for x86-64.
 
@@ -19,10 +32,14 @@ compile_error!("libcolumn_c.a is x86-64 code");
 
 mod ffi;
 mod refusal;
+mod typed;
 
 use std::ops::{Range, RangeInclusive};
 
 pub use refusal::Refusal;
+pub use typed::{
+    Date, Kind, Value, column_stats_as, serialize_as, serialize_as_into, serialize_bool, serialize_dates, serialize_f64, serialize_i64,
+};
 
 /// Rows in a block of a Blockwise column.
 const BLOCK: usize = 512;
@@ -57,10 +74,15 @@ pub struct ColumnStats {
     pub rows: u32,
 }
 
+impl ColumnStats {
+    fn from_numbers([minimum, maximum, gcd, rows]: [u64; 4]) -> ColumnStats {
+        ColumnStats { minimum, maximum, gcd, rows: rows as u32 }
+    }
+}
+
 /// The statistics of a list. Refused 1.
 pub fn column_stats(values: &[u64]) -> Result<ColumnStats, Refusal> {
-    let [minimum, maximum, gcd, rows] = ffi::column_stats(values)?;
-    Ok(ColumnStats { minimum, maximum, gcd, rows: rows as u32 })
+    ffi::column_stats(values).map(ColumnStats::from_numbers)
 }
 
 /// Enough bytes for any column of so many rows, whatever its codec: code byte, head, a line and a width byte for each block, a footer's
@@ -72,11 +94,15 @@ pub fn most_bytes(rows: usize) -> usize {
     rows.div_ceil(BLOCK).max(1) * (2 * varint + 1) + 8 * rows + fixed
 }
 
+/// The code bytes of some codecs.
+fn code_bytes(codecs: &[Codec]) -> Vec<u8> {
+    codecs.iter().map(|&codec| codec as u8).collect()
+}
+
 /// Writes a list as a column by that of the listed codecs whose size is least, and returns its bytes. Refused 1 and 3.
 pub fn serialize(values: &[u64], codecs: &[Codec]) -> Result<Vec<u8>, Refusal> {
-    let codecs: Vec<u8> = codecs.iter().map(|&codec| codec as u8).collect();
     let mut out = vec![0; most_bytes(values.len())];
-    let length = serialize_into(values, &codecs, &mut out)?;
+    let length = serialize_into(values, &code_bytes(codecs), &mut out)?;
     out.truncate(length);
     out.shrink_to_fit();
     Ok(out)

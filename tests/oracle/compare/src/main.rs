@@ -7,6 +7,7 @@
 mod lists;
 mod rust;
 mod tally;
+mod typed;
 
 use std::process::ExitCode;
 
@@ -243,7 +244,9 @@ fn main() -> ExitCode {
     let mut words = std::env::args().skip(1).map(|word| word.parse().expect("compare [LISTS [SEED]]: whole numbers"));
     let (many, seed) = (words.next().unwrap_or(10_000), words.next().unwrap_or(1));
     std::panic::set_hook(Box::new(|_| {}));
-    let (mut tally, mut random) = (Tally::default(), Random::new(seed));
+    // Two sequences, so that what is drawn for one comparison leaves the other's inputs as they are.
+    let (mut tally, mut random, mut typed_random) = (Tally::default(), Random::new(seed), Random::new(!seed));
+    typed::compare_mappings(&mut tally, &mut typed_random, 100 * many);
     for values in lists_of_note() {
         compare_choices(&mut tally, &values);
     }
@@ -251,6 +254,7 @@ fn main() -> ExitCode {
         // Every third has a gcd on or near a power of two.
         let values = if turn % 3 == 2 { lists::near_power(&mut random) } else { lists::list(&mut random, (turn as usize / 3 * 2 + turn as usize % 3) % lists::KINDS) };
         compare_list(&mut tally, &mut random, &values);
+        typed::compare(&mut tally, &mut typed_random, &values);
         if turn % 3 == 2 {
             compare_choices(&mut tally, &values);
         }

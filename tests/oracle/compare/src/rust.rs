@@ -5,7 +5,7 @@ use std::panic::{AssertUnwindSafe, catch_unwind};
 use std::sync::Arc;
 
 use columnar::column_values::{load_u64_based_column_values, serialize_u64_based_column_values};
-use columnar::{CodecType, ColumnValues, OwnedBytes};
+use columnar::{CodecType, ColumnValues, MonotonicallyMappableToU64, OwnedBytes};
 
 /// How a call of the Rust failed.
 #[derive(Clone, Copy, Debug, PartialEq, Eq)]
@@ -22,36 +22,36 @@ pub fn codec_types(codecs: &[u8]) -> Vec<CodecType> {
     codecs.iter().map(|&code| [CodecType::Bitpacked, CodecType::Linear, CodecType::BlockwiseLinear][code as usize]).collect()
 }
 
-pub fn write(values: &[u64], codecs: &[u8]) -> Result<Vec<u8>, Failed> {
+pub fn write<T: MonotonicallyMappableToU64>(values: &[T], codecs: &[u8]) -> Result<Vec<u8>, Failed> {
     let mut out = Vec::new();
     guarded(|| serialize_u64_based_column_values(&values, &codec_types(codecs), &mut out))?.map_err(|_| Failed::Error)?;
     Ok(out)
 }
 
-pub struct Opened(Arc<dyn ColumnValues<u64>>);
+pub struct Opened<T = u64>(Arc<dyn ColumnValues<T>>);
 
-pub fn open(bytes: &[u8]) -> Result<Opened, Failed> {
+pub fn open<T: MonotonicallyMappableToU64>(bytes: &[u8]) -> Result<Opened<T>, Failed> {
     let column = guarded(|| load_u64_based_column_values(OwnedBytes::new(bytes.to_vec())))?.map_err(|_| Failed::Error)?;
     Ok(Opened(column))
 }
 
-impl Opened {
+impl<T: MonotonicallyMappableToU64> Opened<T> {
     /// Least value, greatest value, rows.
-    pub fn head(&self) -> (u64, u64, u32) {
+    pub fn head(&self) -> (T, T, u32) {
         (self.0.min_value(), self.0.max_value(), self.0.num_vals())
     }
 
-    pub fn row(&self, row: u32) -> Result<u64, Failed> {
+    pub fn row(&self, row: u32) -> Result<T, Failed> {
         guarded(|| self.0.get_val(row))
     }
 
-    pub fn run(&self, rows: u32) -> Result<Vec<u64>, Failed> {
-        let mut out = vec![0; rows as usize];
+    pub fn run(&self, rows: u32) -> Result<Vec<T>, Failed> {
+        let mut out = vec![T::from_u64(0); rows as usize];
         guarded(|| self.0.get_range(0, &mut out))?;
         Ok(out)
     }
 
-    pub fn find(&self, values: RangeInclusive<u64>, rows: Range<u32>) -> Result<Vec<u32>, Failed> {
+    pub fn find(&self, values: RangeInclusive<T>, rows: Range<u32>) -> Result<Vec<u32>, Failed> {
         let mut found = Vec::new();
         guarded(|| self.0.get_row_ids_for_value_range(values, rows, &mut found))?;
         Ok(found)

@@ -14,6 +14,7 @@ pub enum Cause {
     AreaShort,
     AreaIntoFooter,
     OutsideBounds,
+    TrueIsOne,
 }
 
 impl fmt::Display for Cause {
@@ -27,6 +28,7 @@ impl fmt::Display for Cause {
             Cause::AreaShort => "a short area opens (10 here)",
             Cause::AreaIntoFooter => "an area that runs into the footer opens (10 here)",
             Cause::OutsideBounds => "a value outside the bounds is answered (14 here)",
+            Cause::TrueIsOne => "a lookup of bools finds true as a stored 1 only",
         })
     }
 }

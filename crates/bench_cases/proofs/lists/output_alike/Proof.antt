@@ -7,8 +7,11 @@ use borrow.Author.Needs.{needs}
 use Rattle.bench_cases.proofs.lists.output_alike.Statement.{statement}
 use Rattle.bench_cases.proofs.lists.output_alike.Tie as tie
 
-serialize-requires : tie.Need-serialize-requires
-serialize-requires c κs = search needs
+kind-at-requires : tie.Need-kind-at-requires
+kind-at-requires c κs = search needs
+
+serialize-as-requires : tie.Need-serialize-as-requires
+serialize-as-requires c κs = search needs
 
 enum-known-n : tie.Need-enum-known-n
 enum-known-n c = search needs
@@ -119,7 +122,8 @@ pub output-alike-spec : {M : Type 1} → statement M
 output-alike-spec =
     tie.close
     (tie.spec
-    serialize-requires
+    kind-at-requires
+    serialize-as-requires
     enum-known-n
     nothing-asked-requires
     same-length

@@ -7,10 +7,10 @@ use Rattle.bench_cases.proofs.lists.rows_back.Statement.{statement}
 use Rattle.bench_cases.proofs.lists.rows_back.Tie as tie
 
 abbrev Inv-loop : tie.InvT-loop
-Inv-loop column table bytes values i₀ i = Unit {0}
+Inv-loop column table bytes kind values i₀ i = Unit {0}
 
 abbrev μ-loop : tie.MeasureT-loop
-μ-loop column table bytes values i₀ i = length values - i
+μ-loop column table bytes kind values i₀ i = length values - i
 
 loop-holds : tie.Need-loop-holds Inv-loop μ-loop
 loop-holds c = search needs

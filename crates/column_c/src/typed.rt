@@ -1,0 +1,149 @@
+// Columns of signed numbers, dates, bools and floats. A list of any kind is lent as 64-bit words, with the kind's number: 0 plain numbers, 1 signed numbers,
+// 2 dates, 3 bools, 4 floats. What a row's value reads as is a call on that number, and a lookup by values is one in the range of stored numbers that
+// a call makes of its bounds: so no call here takes a column.
+ghost use mathlib.Core.Path.{_≡_};
+ghost use lib.ListN.{length};
+ghost use Rattle.format.specs.Typed.{signedOf, flagOf, floatOf, signedRange, flagRange, floatRange};
+ghost use Rattle.column_c.specs.Numbers.{Lists, States};
+ghost use Rattle.column_c.specs.Typed.{kindFrom, knownMeaning, statedFrom, writtenFrom, rangeNumbers};
+use crate::ACCEPTED;
+use crate::told;
+use format::Kind;
+use format::Refusal;
+use format::Stated;
+use format::Written;
+
+// A kind that a caller names by its number.
+pub enum Known {
+    Kind(Kind),
+    Refused(Refusal),
+}
+
+// The kind of a number, if it is one.
+fn kind_from(number: u32) -> Known
+    ensures { λ r. ⌜ knownMeaning r ≡ kindFrom number ⌝ }
+{
+    match number {
+        0 => Known::Kind(Kind::U64),
+        1 => Known::Kind(Kind::I64),
+        2 => Known::Kind(Kind::Date),
+        3 => Known::Kind(Kind::Bool),
+        4 => Known::Kind(Kind::F64),
+        _ => Known::Refused(Refusal::Unfit),
+    }
+}
+
+// ---- writing
+
+// The statistics of the numbers that a list of values is stored as: minimum, maximum, gcd, rows.
+#[no_mangle]
+pub extern "C" fn hulemartob_column_stats_as(
+    kind: u32,
+    values: &[u64],
+    stats: &mut [u64; 4],
+    refusal: &mut [u64; 2],
+)
+    ensures { λ _. ⌜ States (statedFrom kind (now (values .entry))) (now (refusal .exit)) (now (stats .entry)) (now (stats .exit)) ⌝ }
+{
+    let known = match kind_from(kind) {
+        Known::Kind(known) => known,
+        Known::Refused(q) => {
+            *refusal = told(q);
+            return;
+        }
+    };
+    match u64_based::column_stats_as(known, values) {
+        Stated::Stats(s) => {
+            *stats = [s.minimum, s.maximum, s.gcd, s.rows as u64];
+            *refusal = ACCEPTED;
+        }
+        Stated::Refused(q) => {
+            *refusal = told(q);
+        }
+    }
+}
+
+// Writes a list of values as a column by one of the listed codecs, and returns the column's length, 0 on refusal.
+#[no_mangle]
+pub extern "C" fn hulemartob_serialize_as(
+    kind: u32,
+    values: &[u64],
+    codecs: &[u8],
+    out: &mut [u8],
+    refusal: &mut [u64; 2],
+) -> usize
+    ensures { λ r. ⌜ Lists (writtenFrom kind (now (values .entry)) (now (codecs .entry)) (length (now (out .entry)))) r (now (refusal .exit)) (now (out .entry)) (now (out .exit)) ⌝ }
+{
+    let known = match kind_from(kind) {
+        Known::Kind(known) => known,
+        Known::Refused(q) => {
+            *refusal = told(q);
+            return 0;
+        }
+    };
+    match u64_based::serialize_as(known, values, codecs, out) {
+        Written::Length(n) => {
+            *refusal = ACCEPTED;
+            n
+        }
+        Written::Refused(q) => {
+            *refusal = told(q);
+            0
+        }
+    }
+}
+
+// ---- reading
+
+// What a stored number reads as: a signed number, or a date's nanoseconds.
+#[no_mangle]
+pub extern "C" fn hulemartob_i64_of(stored: u64) -> i64
+    ensures { λ r. ⌜ r ≡ signedOf stored ⌝ }
+{
+    monotonic_mapping::signed_of(stored)
+}
+
+// A bool.
+#[no_mangle]
+pub extern "C" fn hulemartob_bool_of(stored: u64) -> bool
+    ensures { λ r. ⌜ r ≡ flagOf stored ⌝ }
+{
+    monotonic_mapping::flag_of(stored)
+}
+
+// The bits of a float.
+#[no_mangle]
+pub extern "C" fn hulemartob_f64_bits_of(stored: u64) -> u64
+    ensures { λ r. ⌜ r ≡ floatOf stored ⌝ }
+{
+    monotonic_mapping::float_of(stored)
+}
+
+// ---- looking up
+
+// The first and the last stored number of the signed numbers, or dates, from low to high.
+#[no_mangle]
+pub extern "C" fn hulemartob_i64_range(low: i64, high: i64, range: &mut [u64; 2])
+    ensures { λ _. ⌜ now (range .exit) ≡ rangeNumbers (signedRange low high) ⌝ }
+{
+    let stored = monotonic_mapping::signed_range(low, high);
+    *range = [stored.low, stored.high];
+}
+
+// Of the bools.
+#[no_mangle]
+pub extern "C" fn hulemartob_bool_range(low: bool, high: bool, range: &mut [u64; 2])
+    ensures { λ _. ⌜ now (range .exit) ≡ rangeNumbers (flagRange low high) ⌝ }
+{
+    let stored = monotonic_mapping::flag_range(low, high);
+    *range = [stored.low, stored.high];
+}
+
+// Of the floats, by their bits.
+#[no_mangle]
+pub extern "C" fn hulemartob_f64_range(low: u64, high: u64, range: &mut [u64; 2])
+    ensures { λ _. ⌜ now (range .exit) ≡ rangeNumbers (floatRange low high) ⌝ }
+{
+    let stored = monotonic_mapping::float_range(low, high);
+    *range = [stored.low, stored.high];
+}
