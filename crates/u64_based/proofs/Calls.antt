@@ -39,7 +39,8 @@ use Rattle.format.proofs.Rows.{own-row}
 use Rattle.format.proofs.Writes.{written-as}
 use Rattle.format.proofs.Demand2.{demand2, written-shortest}
 use Rattle.format.proofs.Demand3.{demand3}
-use Rattle.u64_based.specs.Calls.{OpenedAs, FoundAs, SerializedAs}
+use Rattle.reading.specs.Answers.{FoundAs}
+use Rattle.u64_based.specs.Calls.{OpenedAs, SerializedAs}
 
 -- ---- opening
 

@@ -22,7 +22,8 @@ use Rattle.format.specs.Stats.{stated}
 use Rattle.format.specs.Typed.{storedAs}
 use Rattle.format.specs.Writing.{written}
 use Rattle.format.proofs.Answers.{stated-injective, written-injective, opened-injective, row-injective, found-injective, run-injective}
-use Rattle.u64_based.specs.Calls.{SerializedAs, OpenedAs, FoundAs, RunAs}
+use Rattle.reading.specs.Answers.{FoundAs, RunAs}
+use Rattle.u64_based.specs.Calls.{SerializedAs, OpenedAs}
 
 -- two answers of `column_stats`
 pub stats-determined : (values : List ℕ) (a b : Stated) → statedMeaning a ≡ stated values → statedMeaning b ≡ stated values → a ≡ b

@@ -44,7 +44,8 @@ use Rattle.format.proofs.Answers.{opened-injective, signed-injective, flag-inje
 use Rattle.format.proofs.Writes.{written-as}
 use Rattle.format.proofs.TypedLookups.{row-words, covered-lookup, signed-covers, flag-covers, float-covers}
 use Rattle.format.proofs.TypedDemands.{returns-as, shortest-as, tell-typed}
-use Rattle.u64_based.specs.Calls.{OpenedAs, FoundAs, SerializedAs}
+use Rattle.reading.specs.Answers.{FoundAs}
+use Rattle.u64_based.specs.Calls.{OpenedAs, SerializedAs}
 use Rattle.u64_based.proofs.Calls.{Opens, reads, written-of, front-of}
 
 -- ---- demand 2

@@ -1,7 +1,4 @@
 pub mod Choice
 pub mod Writing
 pub mod Opening
-pub mod Chunks
-pub mod Lookup
-pub mod Running
 pub mod Calls

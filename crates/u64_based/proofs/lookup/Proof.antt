@@ -6,9 +6,9 @@ use denote.Ref.{now}
 use lib.ListN.{length}
 use Rattle.format.specs.Lookup.{lookedUp, within}
 use Rattle.format.specs.Reading.{blockAt, rowAt}
-use Rattle.u64_based.specs.Calls.{FoundAs}
-use Rattle.u64_based.specs.Lookup.{left, Seeking}
-use Rattle.u64_based.proofs.Seeking.{is-going, is-over, kept-long}
+use Rattle.reading.specs.Answers.{FoundAs}
+use Rattle.reading.specs.Lookup.{left, Seeking}
+use Rattle.reading.proofs.Seeking.{is-going, is-over, kept-long}
 use borrow.Author.Needs.{needs}
 use Rattle.u64_based.proofs.lookup.Statement.{statement}
 use Rattle.u64_based.proofs.lookup.Tie as tie

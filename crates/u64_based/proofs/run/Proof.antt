@@ -5,8 +5,8 @@ use denote.Ref.{now}
 use lib.ListN.{length}
 use Rattle.format.specs.Reading.{blockAt, rowAt}
 use Rattle.format.specs.Runs.{decoded}
-use Rattle.u64_based.specs.Running.{left, Walking}
-use Rattle.u64_based.proofs.Walking.{is-passing, is-over, passing-long, run-kept-long}
+use Rattle.reading.specs.Running.{left, Walking}
+use Rattle.reading.proofs.Walking.{is-passing, is-over, passing-long, run-kept-long}
 use borrow.Author.Needs.{needs}
 use Rattle.u64_based.proofs.run.Statement.{statement}
 use Rattle.u64_based.proofs.run.Tie as tie
