@@ -7,6 +7,5 @@ pub mod Chunks
 -- looking rows up
 pub mod Scans
 pub mod Turns
-pub mod Seeking
--- runs
+-- lookups and runs under way
 pub mod Walking

@@ -14,7 +14,7 @@ use native.Mathlib.Omega.{arith}
 use lib.ListN.{length, drop, getD, set, length-set, drop-of-length-le}
 use lib.Seq.{sets, drop-cons}
 use Rattle.format.specs.Outcome.{pick}
-use Rattle.reading.specs.Lookup.{rowsIn}
+use Rattle.reading.specs.Walks.{rowsIn}
 
 module _ (test : ℕ → Bool) where
   -- at most one row a value

@@ -1,4 +1,3 @@
 pub mod Answers
 pub mod Chunks
-pub mod Lookup
-pub mod Running
+pub mod Walks

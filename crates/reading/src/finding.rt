@@ -1,35 +1,23 @@
-// Looking rows up, chunk by chunk, in two passes over the rows from `first` to `end`: the first counts, and there a refused row decides; the
-// second stores. The table is walked by `lookup` itself; here a chunk comes with its block.
+// Looking rows up: a walk whose first pass counts the rows in the range, and whose second stores them.
 ghost use mathlib.Core.Path.{_≡_};
-ghost use mathlib.Core.Bool.{Bool, true, false};
+ghost use mathlib.Core.Bool.{Bool};
 ghost use mathlib.Core.List.{List};
 ghost use Prim.Native.Nat.{ℕ, _+_, _/_, _^_, _≤_, _<_, min};
 ghost use lib.ListN.{length, set};
 ghost use lib.Seq.{sets};
-ghost use Rattle.format.specs.Outcome.{Outcome, Outcome.value, pick};
+ghost use Rattle.format.specs.Outcome.{Outcome, pick};
 ghost use Rattle.format.specs.Lookup.{lookedUp, within};
 ghost use Rattle.format.specs.Reading.{blockAt, rowAt};
-ghost use Rattle.format.specs.Runs.{readRun};
+ghost use Rattle.reading.specs.Answers.{FoundAs};
 ghost use Rattle.reading.specs.Chunks.{chunkSize};
-ghost use Rattle.reading.specs.Lookup.{rowsIn, Going, Within, left, Counting, Storing, Seeking};
+ghost use Rattle.reading.specs.Walks.{rowsIn, Kept.rowsOf, WalkedAs, Going, left, Walking};
 use crate::reader::Decoded;
+use crate::walks::Walk;
+use crate::walks::Walked;
 use format::Block;
 use format::Column;
 use format::ColumnRow;
 use format::Found;
-use format::Refusal;
-
-// A lookup under way, over the rows from `first` to `end`: in the pass at hand, those before `at` are done, and `n` of them lie in the range. While it is going
-// on, its first pass counts them and its second stores them; then its answer stands.
-pub struct Seek {
-    pub first: u32,
-    pub end: u32,
-    pub at: u32,
-    pub n: usize,
-    pub storing: bool,
-    pub going: bool,
-    pub answer: Found,
-}
 
 // The end row, cut to so many rows.
 fn cut(end: u32, rows: u32) -> u32
@@ -46,13 +34,6 @@ fn within(low: u64, high: u64, value: u64) -> bool
         return false;
     }
     value <= high
-}
-
-// The block of the chunk at hand.
-pub fn block_of(s: Seek) -> usize
-    ensures { λ r. ⌜ r ≡ s .at / 512 ⌝ }
-{
-    blockwise_linear::reader::split(ColumnRow(s.at)).block
 }
 
 // One more than `n` if a value lies in the range.
@@ -126,108 +107,41 @@ fn store_within(
     n
 }
 
-// The rows of the chunk at hand: up to the end, or to the next multiple of 512.
-pub fn chunk_size(at: u32, end: u32) -> usize
-    requires { ⌜ at < end ⌝ }
-    ensures { λ r. ⌜ r ≡ chunkSize at end ⌝ }
-{
-    let whole = 512 - at % 512;
-    if end - at < whole {
-        (end - at) as usize
-    } else {
-        whole as usize
-    }
-}
-
-// The end of a lookup, with its answer.
-fn over(s: Seek, answer: Found) -> Seek
-    ensures { λ r. ⌜ (r .going ≡ false) × (r .answer ≡ answer) ⌝ }
-{
-    Seek {
-        first: s.first,
-        end: s.end,
-        at: s.at,
-        n: s.n,
-        storing: s.storing,
-        going: false,
-        answer,
-    }
-}
-
 // How a lookup of the rows from `first` to `end`, cut to so many rows, begins; where there are none, it is over.
-pub fn begin(rows: u32, first: u32, end: u32) -> Seek
-    ensures { λ s. ⌜ ((read : ℕ → Outcome ℕ) (test : ℕ → Bool) (list : List ℕ) → Seeking read test rows (lookedUp read rows test first end (length list)) list s list) ⌝ }
+pub fn begin(rows: u32, first: u32, end: u32) -> Walk
+    ensures { λ w. ⌜ ((read : ℕ → Outcome ℕ) (test : ℕ → Bool) (list : List ℕ) → Walking (rowsOf test) read rows (lookedUp read rows test first end (length list)) list w list) ⌝ }
 {
     let last = cut(end, rows);
-    Seek {
+    Walk {
         first,
         end: last,
         at: first,
         n: 0,
         storing: false,
         going: first < last,
-        answer: Found::Rows(0),
+        answer: Walked::Entries(0),
     }
 }
 
-// Internal: asks for a lookup that is going on, and a chunk of it. Behind a chunk of the first pass, of whose rows `n` lie in the range: goes on with the rows behind it, or with the second pass; it is over where the list
-// is too short, or nothing is to be stored.
-fn counted(s: Seek, size: usize, n: usize, room: usize) -> Seek
-    requires { ⌜ Going s × Within s size × (n ≤ size) × (s .storing ≡ false) ⌝ }
-    ensures { λ r. ⌜ ((read : ℕ → Outcome ℕ) (test : ℕ → Bool) (rows : ℕ) (o : Outcome (List ℕ)) (list values : List ℕ) → Counting read test rows o list s list → readRun read (s .at) size ≡ value values → n ≡ length (rowsIn test (s .at) values) → room ≡ length list → Seeking read test rows o list r list) ⌝ }
-    ensures { λ r. ⌜ left r < left s ⌝ }
+// Internal: asks for rows below 2^32, and no more entries before `at` than rows before `row`. How many of the rows lie in the range, the first value's row being `row`; in a pass that
+// stores they are stored from entry `at` on.
+fn keep(
+    storing: bool,
+    values: &[u64],
+    low: u64,
+    high: u64,
+    row: u32,
+    found: &mut [u32],
+    at: usize,
+) -> usize
+    requires { ⌜ (row + length (now values) ≤ 2 ^ 32) × (at ≤ row) ⌝ }
+    ensures { λ n. ⌜ n ≡ length (rowsIn (within low high) row (now (values .entry))) ⌝ }
+    ensures { λ _. ⌜ now (found .exit) ≡ pick storing (sets (now (found .entry)) at (rowsIn (within low high) row (now (values .entry)))) (now (found .entry)) ⌝ }
 {
-    let at = s.at + size as u32;
-    let total = s.n + n;
-    let answer = s.answer;
-    if at < s.end {
-        return Seek {
-            first: s.first,
-            end: s.end,
-            at,
-            n: total,
-            storing: false,
-            going: true,
-            answer,
-        };
+    if !storing {
+        return count_within(values, low, high);
     }
-    if room < total {
-        return over(s, Found::Refused(Refusal::ListShort { found: total }));
-    }
-    if total == 0 {
-        return over(s, Found::Rows(0));
-    }
-    Seek {
-        first: s.first,
-        end: s.end,
-        at: s.first,
-        n: 0,
-        storing: true,
-        going: true,
-        answer,
-    }
-}
-
-// Internal: asks for the same. Behind a chunk of the second pass, whose rows stand in the list before entry `n`: goes on with the rows behind it, or is over.
-fn stored(s: Seek, size: usize, n: usize) -> Seek
-    requires { ⌜ Going s × Within s size × (n ≤ s .at + size) × (s .storing ≡ true) ⌝ }
-    ensures { λ r. ⌜ ((read : ℕ → Outcome ℕ) (test : ℕ → Bool) (rows : ℕ) (o : Outcome (List ℕ)) (before list values : List ℕ) → Storing read test rows o before s list → readRun read (s .at) size ≡ value values → n ≡ s .n + length (rowsIn test (s .at) values) → Seeking read test rows o before r (sets list (s .n) (rowsIn test (s .at) values))) ⌝ }
-    ensures { λ r. ⌜ left r < left s ⌝ }
-{
-    let at = s.at + size as u32;
-    let answer = s.answer;
-    if at < s.end {
-        return Seek {
-            first: s.first,
-            end: s.end,
-            at,
-            n,
-            storing: true,
-            going: true,
-            answer,
-        };
-    }
-    over(s, Found::Rows(n))
+    store_within(values, low, high, row, found, at) - at
 }
 
 // One turn through a buffer of the chunk's size.
@@ -238,25 +152,21 @@ fn step_through(
     bytes: &[u8],
     low: u64,
     high: u64,
-    s: Seek,
+    w: Walk,
     values: &mut [u64],
     found: &mut [u32],
-) -> Seek
-    requires { ⌜ Going s × (s .end ≤ column .rows) × (length (now values) ≡ chunkSize (s .at) (s .end)) ⌝ }
-    ensures { λ r. ⌜ ((table before : List ℕ) (o : Outcome (List ℕ)) → blocks ≡ length table / 4 → block ≡ blockAt table (s .at / 512) → Seeking (rowAt column table (now (bytes .entry))) (within low high) (column .rows) o before s (now (found .entry)) → Seeking (rowAt column table (now (bytes .entry))) (within low high) (column .rows) o before r (now (found .exit))) ⌝ }
-    ensures { λ r. ⌜ left r < left s ⌝ }
+) -> Walk
+    requires { ⌜ Going w × (w .end ≤ column .rows) × (length (now values) ≡ chunkSize (w .at) (w .end)) ⌝ }
+    ensures { λ r. ⌜ ((table before : List ℕ) (o : Outcome (List ℕ)) → blocks ≡ length table / 4 → block ≡ blockAt table (w .at / 512) → Walking (rowsOf (within low high)) (rowAt column table (now (bytes .entry))) (column .rows) o before w (now (found .entry)) → Walking (rowsOf (within low high)) (rowAt column table (now (bytes .entry))) (column .rows) o before r (now (found .exit))) ⌝ }
+    ensures { λ r. ⌜ left r < left w ⌝ }
 {
-    let decoded = crate::reader::decode(column, blocks, block, bytes, ColumnRow(s.at), values);
+    let decoded = crate::reader::decode(column, blocks, block, bytes, ColumnRow(w.at), values);
     if let Decoded::Refused(why) = decoded {
-        return over(s, Found::Refused(why));
+        return crate::walks::over(w, Walked::Refused(why));
     }
-    let size = values.len();
-    if s.storing {
-        let n = store_within(values, low, high, s.at, found, s.n);
-        return stored(s, size, n);
-    }
-    let n = count_within(values, low, high);
-    counted(s, size, n, found.len())
+    let room = found.len();
+    let n = keep(w.storing, values, low, high, w.at, found, w.n);
+    crate::walks::advanced(w, values.len(), n, room)
 }
 
 // Internal: asks for a lookup that is going on over rows of the column. One turn: the chunk at hand, with its block out of a table of so many.
@@ -267,15 +177,15 @@ pub fn step(
     bytes: &[u8],
     low: u64,
     high: u64,
-    s: Seek,
+    w: Walk,
     found: &mut [u32],
-) -> Seek
-    requires { ⌜ Going s × (s .end ≤ column .rows) ⌝ }
-    ensures { λ r. ⌜ ((table before : List ℕ) (o : Outcome (List ℕ)) → blocks ≡ length table / 4 → block ≡ blockAt table (s .at / 512) → Seeking (rowAt column table (now (bytes .entry))) (within low high) (column .rows) o before s (now (found .entry)) → Seeking (rowAt column table (now (bytes .entry))) (within low high) (column .rows) o before r (now (found .exit))) ⌝ }
-    ensures { λ r. ⌜ left r < left s ⌝ }
+) -> Walk
+    requires { ⌜ Going w × (w .end ≤ column .rows) ⌝ }
+    ensures { λ r. ⌜ ((table before : List ℕ) (o : Outcome (List ℕ)) → blocks ≡ length table / 4 → block ≡ blockAt table (w .at / 512) → Walking (rowsOf (within low high)) (rowAt column table (now (bytes .entry))) (column .rows) o before w (now (found .entry)) → Walking (rowsOf (within low high)) (rowAt column table (now (bytes .entry))) (column .rows) o before r (now (found .exit))) ⌝ }
+    ensures { λ r. ⌜ left r < left w ⌝ }
 {
     let mut buffer = [0u64; 512];
-    let size = chunk_size(s.at, s.end);
+    let size = crate::walks::chunk_size(w.at, w.end);
     step_through(
         column,
         blocks,
@@ -283,8 +193,19 @@ pub fn step(
         bytes,
         low,
         high,
-        s,
+        w,
         &mut buffer[..size],
         found,
     )
+}
+
+// What a lookup that is over found.
+pub fn answer(w: Walk) -> Found
+    ensures { λ r. ⌜ ((o : Outcome (List ℕ)) (before list : List ℕ) → WalkedAs o (w .answer) before list → FoundAs o r before list) ⌝ }
+{
+    let answer = w.answer;
+    match answer {
+        Walked::Entries(n) => Found::Rows(n),
+        Walked::Refused(why) => Found::Refused(why),
+    }
 }

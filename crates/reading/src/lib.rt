@@ -3,3 +3,4 @@
 pub mod finding;
 pub mod reader;
 pub mod runs;
+pub mod walks;

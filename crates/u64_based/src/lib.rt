@@ -128,12 +128,12 @@ pub fn lookup(
     ensures { λ r. ⌜ FoundAs (lookedUp (rowAt column (now (table .entry)) (now (bytes .entry))) (column .rows) (within low high) first end (length (now (found .entry)))) r (now (found .entry)) (now (found .exit)) ⌝ }
 {
     let blocks = table.len() / 4;
-    let mut s = reading::finding::begin(column.rows, first, end);
-    while s.going {
-        let block = blockwise_linear::reader::block_at(table, reading::finding::block_of(s));
-        s = reading::finding::step(column, blocks, block, bytes, low, high, s, found);
+    let mut w = reading::finding::begin(column.rows, first, end);
+    while w.going {
+        let block = blockwise_linear::reader::block_at(table, reading::walks::block_of(w));
+        w = reading::finding::step(column, blocks, block, bytes, low, high, w, found);
     }
-    s.answer
+    reading::finding::answer(w)
 }
 
 // The values of the column's rows from `first` on, as many as the lent list has entries, into that list. A run that leaves the rows is refused before all else; then the
@@ -144,8 +144,8 @@ pub fn run(column: Column, table: &[u64], bytes: &[u8], first: u32, out: &mut [u
     let blocks = table.len() / 4;
     let mut w = reading::runs::begin(column.rows, first, out.len());
     while w.going {
-        let block = blockwise_linear::reader::block_at(table, reading::runs::block_of(w));
+        let block = blockwise_linear::reader::block_at(table, reading::walks::block_of(w));
         w = reading::runs::step(column, blocks, block, bytes, w, out);
     }
-    w.answer
+    reading::runs::answer(w)
 }

@@ -2,7 +2,7 @@
 -- Assumes nothing.
 use mathlib.Core.Path.{refl}
 use native.Mathlib.Omega.{arith}
-use Rattle.reading.proofs.Walking.{ended, leaves, none, begins}
+use Rattle.reading.proofs.Walking.{ended, leaves, none, begins-run}
 use borrow.Author.Needs.{needs}
 use Rattle.reading.proofs.runs.begin.Statement.{statement}
 use Rattle.reading.proofs.runs.begin.Tie as tie
@@ -41,7 +41,7 @@ sub-t14 : tie.Need-sub-t14
 sub-t14 c = search needs
 
 returns-4 : tie.Need-returns-4
-returns-4 c = λ read list long. record { phase = begins read _ _ _ list long (omega (arith, c .before .if2 .left, c .before .before .if1 .left)) (omega arith) _ refl _ }
+returns-4 c = λ read list long. record { phase = begins-run read _ _ _ list long (omega (arith, c .before .if2 .left, c .before .before .if1 .left)) (omega arith) _ refl _ }
 
 pub begin-spec : {M : Type 1} → statement M
 begin-spec =

@@ -20,7 +20,7 @@ step-through-requires : tie.Need-step-through-requires
 step-through-requires c κs =
     let k = c .before .before in
     let s = k .before .before .before in
-    (s .pre .0, s .pre .1, front-length _ _ refl (omega (arith, k .chunk-size .ensures)) ∙ k .chunk-size .ensures, s .pre .2)
+    (s .pre .0, s .pre .1, front-length _ _ refl (omega (arith, k .chunk-size .ensures)) ∙ k .chunk-size .ensures, s .pre .2, s .pre .3)
 
 same-length : tie.Need-same-length
 same-length c = search needs

@@ -1,13 +1,13 @@
 -- `reading::runs::step_through` meets its contract: the chunk is refused, or behind it the run goes on.
 -- Assumes nothing.
-use mathlib.Core.Path.{sym, subst}
+use mathlib.Core.Path.{refl, sym, subst}
 use mathlib.Core.List.{List}
 use Prim.Native.Nat.{ℕ}
 use denote.Ref.{now}
 use Rattle.format.specs.Reading.{rowAt}
-use Rattle.reading.specs.Running.{Walking}
+use Rattle.reading.specs.Walks.{Kept.allValues, Walking}
 use Rattle.reading.proofs.Chunks.{whole-run, refused-run}
-use Rattle.reading.proofs.Walking.{ended, is-passing, refuses, falls-over}
+use Rattle.reading.proofs.Walking.{ended, is-passing, passing-long, refuses, falls-over}
 use borrow.Author.Needs.{needs}
 use Rattle.reading.proofs.runs.step_through.Statement.{statement}
 use Rattle.reading.proofs.runs.step_through.Tie as tie
@@ -35,19 +35,13 @@ returns c =
     let s = entry d in (
       (λ table before o number block f.
           ended (c .over .ensures .0) (c .over .ensures .1)
-          (refuses (rowAt (s .args .column) table (now (s .args .bytes))) (is-passing f (s .pre .0 .on)) _ (s .pre .2) _
+          (refuses allValues (rowAt (s .args .column) table (now (s .args .bytes))) (is-passing f (s .pre .0 .on)) _ (s .pre .2) _
           (refused-run (s .args .column) (now (s .args .bytes)) (s .args .w .at) (s .args .w .end) _ (s .args .blocks) (s .args .block) (s .pre .2) (d .decode .ensures) table number block (a .answer .given .1)))),
       falls-over _ (s .pre .0) (c .over .result) (c .over .ensures .0),
     )
 
 enum-told : tie.Need-enum-told
 enum-told c = search needs
-
-sub-keep : tie.Need-sub-keep
-sub-keep c = search needs
-
-cast-keep : tie.Need-cast-keep
-cast-keep c = search needs
 
 keep-requires : tie.Need-keep-requires
 keep-requires c κs = search needs
@@ -64,13 +58,14 @@ same-length-3 c = search needs
 returns-2 : tie.Need-returns-2
 returns-2 c =
     let k = c .before .before .before in
-    let e = k .before .before .before .before in
+    let e = k .before .before .before in
     let d = e .before .before .before .before in
     let s = entry d in (
       (λ table before o number block f.
-          subst (λ (l : List ℕ). Walking (rowAt (s .args .column) table (now (s .args .bytes))) (s .args .column .rows) o before (c .advanced .result) l) (sym (k .keep .ensures))
-          (c .advanced .ensures .0 (rowAt (s .args .column) table (now (s .args .bytes))) (s .args .column .rows) o before _ _ (is-passing f (s .pre .0 .on))
-          (whole-run (s .args .column) (now (s .args .bytes)) (s .args .w .at) (s .args .w .end) _ (s .args .blocks) (s .args .block) (s .pre .2) (d .decode .ensures) table number block (e .enum-told .given .1)))),
+          subst (λ (l : List ℕ). Walking allValues (rowAt (s .args .column) table (now (s .args .bytes))) (s .args .column .rows) o before (c .advanced .result) l) (sym (k .keep .ensures))
+          (c .advanced .ensures .0 allValues (rowAt (s .args .column) table (now (s .args .bytes))) (s .args .column .rows) o before _ _ (is-passing f (s .pre .0 .on))
+          (whole-run (s .args .column) (now (s .args .bytes)) (s .args .w .at) (s .args .w .end) _ (s .args .blocks) (s .args .block) (s .pre .2) (d .decode .ensures) table number block (e .enum-told .given .1))
+          refl (passing-long (is-passing f (s .pre .0 .on))))),
       c .advanced .ensures .1,
     )
 
@@ -84,8 +79,6 @@ step-through-spec =
     same-length
     returns
     enum-told
-    sub-keep
-    cast-keep
     keep-requires
     advanced-requires
     same-length-2
