@@ -149,9 +149,9 @@ fn field(word: u64, shift: usize, width: u8) -> u64
     (word >> shift) & mask(width)
 }
 
-// The bytes from `at` on as a number, little end first, where fewer than eight are left.
-fn fetch_last(area: &[u8], at: usize) -> u64
-    requires { ⌜ length (now area) ≤ at + 8 ⌝ }
+// The bytes from `at` on as a number, little end first, of an area of fewer than eight.
+fn fetch_short(area: &[u8], at: usize) -> u64
+    requires { ⌜ length (now area) < 8 ⌝ }
     ensures { λ r. ⌜ r ≡ bytesNum (take 8 (drop at (now (area .entry)))) ⌝ }
 {
     if area.len() <= at {
@@ -160,13 +160,26 @@ fn fetch_last(area: &[u8], at: usize) -> u64
     gather(area, at, area.len() - at)
 }
 
+// The bytes from `at` on as a number, little end first, where at most seven are left of an area of more: the last eight, without those before `at`. A shift
+// instead of a loop, so that a loop over rows keeps its numbers in registers.
+fn fetch_last(area: &[u8], at: usize) -> u64
+    requires { ⌜ (8 ≤ length (now area)) × (length (now area) < at + 8) ⌝ }
+    ensures { λ r. ⌜ r ≡ bytesNum (take 8 (drop at (now (area .entry)))) ⌝ }
+{
+    if area.len() <= at {
+        return 0;
+    }
+    let start = area.len() - 8;
+    gather(area, start, 8) >> (8 * (at - start))
+}
+
 // The bytes from `at` on as a number, little end first: eight of them, or as many as there are. Whether the area has eight at all does not depend on
 // the place, so that a loop over rows tests once a row.
 fn fetch(area: &[u8], at: usize) -> u64
     ensures { λ r. ⌜ r ≡ bytesNum (take 8 (drop at (now (area .entry)))) ⌝ }
 {
     if area.len() < 8 {
-        return fetch_last(area, at);
+        return fetch_short(area, at);
     }
     if area.len() - 8 < at {
         return fetch_last(area, at);
