@@ -45,9 +45,9 @@ impl Opened {
         guarded(|| self.0.get_val(row))
     }
 
-    pub fn run(&self, rows: u32) -> Result<Vec<u64>, Failed> {
-        let mut out = vec![0; rows as usize];
-        guarded(|| self.0.get_range(0, &mut out))?;
+    pub fn run(&self, first: u32, rows: usize) -> Result<Vec<u64>, Failed> {
+        let mut out = vec![0; rows];
+        guarded(|| self.0.get_range(u64::from(first), &mut out))?;
         Ok(out)
     }
 
