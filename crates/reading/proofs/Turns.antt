@@ -10,7 +10,7 @@ use native.Mathlib.Nat.{add-zero, suc-add, add-suc}
 use native.Mathlib.Numerals.{add-one}
 use lib.ListN.{length, set}
 use lib.Seq.{sets}
-use Rattle.format.specs.Lookup.{passes, allRead, rowsPassing}
+use Rattle.format.specs.Lookup.{allRead, rowsPassing}
 use Rattle.format.specs.Outcome.{Outcome, Outcome.value, Outcome.refusal, _>>=_}
 use Rattle.format.specs.Runs.{readRun}
 use Rattle.format.proofs.Outcomes.{not-value, value-same, by-step}

@@ -10,7 +10,7 @@
 use Prim.Native.Nat.{ℕ, suc, _+_, _-_, _%_, _<_, _≤_, min}
 use mathlib.Core.Path.{_≡_, refl, sym, ap, _∙_, subst}
 use mathlib.Core.Bool.{Bool, true, false}
-use mathlib.Core.Logic.{_⊎_, inl, inr, ⊎-elim}
+use mathlib.Core.Logic.{inl, inr, ⊎-elim}
 use mathlib.Core.List.{List, [], _∷_, _++_}
 use native.Mathlib.Nat.{add-zero, zero-add}
 use native.Mathlib.Omega.{arith}
@@ -31,7 +31,7 @@ use Rattle.reading.specs.declared.walks.Walked.{Walked}
 use Rattle.reading.specs.declared.walks.Walked.the-variants.{Entries, Refused}
 use Rattle.reading.specs.Chunks.{chunkSize}
 use Rattle.reading.specs.Walks.{rowsIn, Kept, Kept.allValues, Kept.rowsOf, entries, kept, walked, WalkedAs, Going, left, Single, Good, Passing, Walking}
-use Rattle.reading.proofs.Chunks.{chunk-some, chunk-to}
+use Rattle.reading.proofs.Chunks.{chunk-to}
 use Rattle.reading.proofs.Scans.{rows-few}
 use Rattle.reading.proofs.Turns.{all-run, all-refused, rows-run, sets-behind}
 

@@ -1,18 +1,17 @@
 -- `bitpacked::reader::scale_rows` meets its contract, by the invariant `Decoding`.
 -- Assumes nothing.
 use Prim.Native.Nat.{ℕ, _+_, _-_, _*_, _^_, _≤_, _<_}
-use mathlib.Core.Path.{_≡_, refl, sym, ap, _∙_}
+use mathlib.Core.Path.{_≡_, refl, ap, _∙_}
 use mathlib.Core.List.{List, [], _∷_}
 use native.Mathlib.Nat.{mul-le-mul-left}
 use native.Mathlib.Omega.{arith}
-use denote.Ref.{now}
 use lib.Dec.{leb}
 use lib.ListN.{length, length-set}
 use borrow.Author.Tests.{le-leb, lt-leb}
 use borrow.Author.Needs.{needs}
 use Rattle.format.specs.Outcome.{Outcome, Outcome.value, Outcome.refusal, _>>_, demand}
 use Rattle.format.specs.Packing.{unpack}
-use Rattle.format.specs.Runs.{readRun, filledTo}
+use Rattle.format.specs.Runs.{readRun}
 use Rattle.format.proofs.Widths.{legal-most, row-place}
 use Rattle.format.proofs.Runs.{Decoding, starts, stored, filled, bounded, scaled-below}
 use Rattle.bitpacked.proofs.reader.scale_rows.Statement.{statement}

@@ -5,8 +5,6 @@ use lib.Seq.{set-out}
 use borrow.Author.Needs.{needs}
 use Rattle.reading.proofs.finding.put.Statement.{statement}
 use Rattle.reading.proofs.finding.put.Tie as tie
-use Rattle.reading.proofs.finding.put.Reads as reads
-use Rattle.reading.proofs.finding.put.Lts as lts
 
 mul-list : tie.Need-mul-list
 mul-list c = search needs

@@ -1,6 +1,5 @@
 -- `reading::reader::column_fits` meets its contract: its tests are the definition's.
 -- Assumes nothing.
-use Prim.Native.Nat.{_+_, _*_, _^_}
 use mathlib.Core.Path.{_≡_, refl, sym, _∙_}
 use mathlib.Core.Bool.{true}
 use native.Mathlib.Omega.{arith}
@@ -10,10 +9,6 @@ use Rattle.reading.proofs.Fitting.{column-tested}
 use borrow.Author.Needs.{needs}
 use Rattle.reading.proofs.reader.column_fits.Statement.{statement}
 use Rattle.reading.proofs.reader.column_fits.Tie as tie
-use Rattle.reading.proofs.reader.column_fits.Reads as reads
-use Rattle.reading.proofs.reader.column_fits.Lts as lts
-use Rattle.stats.proofs.bounds_fit.Reads as bounds-fit-reads
-use Rattle.word.proofs.ends_within.Reads as ends-within-reads
 
 -- the gcd is above 0
 step : (c : tie.Else1) → ltb 0 (c .before .before .before .args .column .gcd) ≡ true

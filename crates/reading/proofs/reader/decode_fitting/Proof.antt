@@ -4,11 +4,6 @@ use Rattle.reading.proofs.Fitting.{bitpacked-reads, linear-reads, block
 use borrow.Author.Needs.{needs}
 use Rattle.reading.proofs.reader.decode_fitting.Statement.{statement}
 use Rattle.reading.proofs.reader.decode_fitting.Tie as tie
-use Rattle.reading.proofs.reader.decode_fitting.Reads as reads
-use Rattle.reading.proofs.reader.decode_fitting.Lts as lts
-use Rattle.bitpacked.proofs.reader.get_range.Reads as reader-get-range-reads
-use Rattle.blockwise_linear.proofs.reader.get_range.Reads as reader-get-range-reads′
-use Rattle.linear.proofs.reader.get_range.Reads as reader-get-range-reads′′
 
 enum-told : tie.Need-enum-told
 enum-told c = search needs

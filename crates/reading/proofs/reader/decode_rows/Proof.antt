@@ -12,9 +12,6 @@ use Rattle.format.proofs.Runs.{Decoding, starts, stored, ends, stops}
 use borrow.Author.Needs.{needs}
 use Rattle.reading.proofs.reader.decode_rows.Statement.{statement}
 use Rattle.reading.proofs.reader.decode_rows.Tie as tie
-use Rattle.reading.proofs.reader.decode_rows.Reads as reads
-use Rattle.reading.proofs.reader.decode_rows.Lts as lts
-use Rattle.reading.proofs.reader.row_in.Reads as row-in-reads
 
 abbrev Inv-loop : tie.InvT-loop
 Inv-loop column blocks block bytes first out₀ i₀ out i = Decoding (rowIn column blocks block bytes) (first .0) out i × (length out ≡ length out₀)

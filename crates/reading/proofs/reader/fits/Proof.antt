@@ -6,10 +6,6 @@ use Rattle.reading.proofs.Fitting.{both-tested}
 use borrow.Author.Needs.{needs}
 use Rattle.reading.proofs.reader.fits.Statement.{statement}
 use Rattle.reading.proofs.reader.fits.Tie as tie
-use Rattle.reading.proofs.reader.fits.Reads as reads
-use Rattle.reading.proofs.reader.fits.Lts as lts
-use Rattle.reading.proofs.reader.column_fits.Reads as column-fits-reads
-use Rattle.reading.proofs.reader.row_fits.Reads as row-fits-reads
 
 column-fits-requires : tie.Need-column-fits-requires
 column-fits-requires c κs = search needs

@@ -10,12 +10,6 @@ use Rattle.reading.proofs.Fitting.{inArea, row-tested}
 use borrow.Author.Needs.{needs}
 use Rattle.reading.proofs.reader.row_fits.Statement.{statement}
 use Rattle.reading.proofs.reader.row_fits.Tie as tie
-use Rattle.reading.proofs.reader.row_fits.Reads as reads
-use Rattle.reading.proofs.reader.row_fits.Lts as lts
-use Rattle.reading.proofs.reader.ends_inside.Reads as ends-inside-reads
-use Rattle.reading.proofs.reader.has_block.Reads as has-block-reads
-use Rattle.reading.proofs.reader.is_legal.Reads as is-legal-reads
-use Rattle.reading.proofs.reader.place_of.Reads as place-of-reads
 
 -- what a test said before the code went on
 block : (c : tie.Else1) → hasBlock (c .before .before .args .column .codec) (c .before .before .args .blocks) (c .before .before .args .row .0) ≡ true

@@ -1,6 +1,5 @@
 -- `reading::walks::advanced` meets its contract: the chunk was not the last, or all is stored, or the second pass begins, or nothing is to be stored.
 -- Assumes nothing.
-use mathlib.Core.Path.{_≡_, sym, ap, subst, _∙_}
 use native.Mathlib.Omega.{arith}
 use Rattle.reading.proofs.Chunks.{chunk-some}
 use Rattle.reading.proofs.Walking.{ended, goes-on, all-stored, too-short, none-found, turns-over, falls-on, falls-over, falls-looking}
