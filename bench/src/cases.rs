@@ -1,6 +1,7 @@
 //! The cases: one work done by both sides, whose answers must agree.
 
 use std::hint::black_box;
+use std::ops::RangeInclusive;
 use std::sync::Arc;
 
 use columnar::column_values::{load_u64_based_column_values, serialize_u64_based_column_values};
@@ -119,10 +120,46 @@ fn all_rows(name: String, both: &Both, rows: usize) -> Case {
     }
 }
 
-/// The rows with the lower half of the values.
-fn looking_up(name: String, both: &Both, rows: usize) -> Case {
+/// All rows in runs of so many.
+fn runs(name: String, both: &Both, rows: usize, size: usize) -> Case {
     let (ours, theirs) = (both.ours.clone(), both.theirs.clone());
-    let range = ours.min_value()..=ours.min_value() + (ours.max_value() - ours.min_value()) / 2;
+    let (mut here, mut there) = (vec![0; rows], vec![0; rows]);
+    Case {
+        name,
+        rows,
+        ours: Box::new(move || {
+            for (first, part) in (0..).step_by(size).zip(here.chunks_mut(size)) {
+                ours.run_into(black_box(first), part).unwrap();
+            }
+            sum(here.iter().copied())
+        }),
+        theirs: Box::new(move || {
+            for (first, part) in (0..).step_by(size).zip(there.chunks_mut(size)) {
+                theirs.get_range(black_box(first), part);
+            }
+            sum(there.iter().copied())
+        }),
+    }
+}
+
+/// The lower half of the values that the head allows.
+fn lower_half(both: &Both) -> RangeInclusive<u64> {
+    let low = both.ours.min_value();
+    low..=low + (both.ours.max_value() - low) / 2
+}
+
+/// Ranges of values that many rows lie in: all, one in a hundred, and, if two neighbours leave a gap, none.
+fn ranges(values: &[u64]) -> Vec<(&'static str, RangeInclusive<u64>)> {
+    let mut sorted = values.to_vec();
+    sorted.sort_unstable();
+    let last = sorted[sorted.len() - 1];
+    let gap = sorted.windows(2).find(|pair| 1 < pair[1] - pair[0]).map(|pair| ("none", pair[0] + 1..=pair[1] - 1));
+    [("all", sorted[0]..=last), ("1 %", sorted[0]..=sorted[sorted.len() / 100])].into_iter().chain(gap).collect()
+}
+
+/// The rows with values of a range.
+fn looking_up(name: String, both: &Both, rows: usize, range: RangeInclusive<u64>) -> Case {
+    let (ours, theirs) = (both.ours.clone(), both.theirs.clone());
     let (mut found, mut hits, again) = (vec![0; rows], Vec::with_capacity(rows), range.clone());
     Case {
         name,
@@ -148,7 +185,14 @@ pub fn all(rows: usize) -> Vec<Case> {
             let both = Both::open(&values, codec);
             cases.push(single_rows(format!("{name} {bits}: single rows"), &both, rows));
             cases.push(all_rows(format!("{name} {bits}: all rows, there by get_range"), &both, rows));
-            cases.push(looking_up(format!("{name} {bits}: lookup"), &both, rows));
+            cases.push(looking_up(format!("{name} {bits}: lookup"), &both, rows, lower_half(&both)));
+            if [4, 13, 32].contains(&bits) {
+                cases.push(runs(format!("{name} {bits}: runs of 512"), &both, rows, 512));
+                cases.push(runs(format!("{name} {bits}: run of all rows"), &both, rows, rows));
+                for (many, range) in ranges(&values) {
+                    cases.push(looking_up(format!("{name} {bits}: lookup, {many} found"), &both, rows, range));
+                }
+            }
             cases.push(writing(format!("{name} {bits}: writing"), values, vec![codec]));
             cases.push(opening(format!("{name} {bits}: opening"), both, rows));
         }

@@ -51,8 +51,8 @@ pub fn get_val(column: Column, bytes: &[u8], row: ColumnRow) -> RowRead
     stats::scaled(column, row, multiple)
 }
 
-// The rows from `first` on whose numbers stand at a width in an area, each scaled, up to the first above the count. Plain numbers, so
-// that nothing is left in the loop but the row's own work.
+// The rows from `first` on whose numbers stand at a width in an area, each scaled, up to the first above the count. Plain numbers, and a bit that
+// moves from row to row, so that nothing is left in the loop but the row's own work.
 fn scale_rows(area: &[u8], width: u8, column: Column, first: u32, out: &mut [u64]) -> usize
     requires { ⌜ legal width ≡ true ⌝ }
     requires { ⌜ column .minimum + column .count * column .gcd < 2 ^ 64 ⌝ }
@@ -62,13 +62,16 @@ fn scale_rows(area: &[u8], width: u8, column: Column, first: u32, out: &mut [u64
     let minimum = column.minimum;
     let gcd = column.gcd;
     let count = column.count;
+    let step = width as usize;
+    let mut bit = first as usize * step;
     let mut i = 0;
     while i < out.len() {
-        let multiple = bitpacker::get(area, width, first + i as u32);
+        let multiple = bitpacker::get_at(area, width, bit);
         if count < multiple {
             return i;
         }
         out[i] = minimum + gcd * multiple;
+        bit += step;
         i += 1;
     }
     i

@@ -149,27 +149,58 @@ fn field(word: u64, shift: usize, width: u8) -> u64
     (word >> shift) & mask(width)
 }
 
-// The bytes from `at` on as a number, little end first: eight of them, or as many as there are.
-fn fetch(area: &[u8], at: usize) -> u64
+// The bytes from `at` on as a number, little end first, of an area of fewer than eight.
+fn fetch_short(area: &[u8], at: usize) -> u64
+    requires { ⌜ length (now area) < 8 ⌝ }
     ensures { λ r. ⌜ r ≡ bytesNum (take 8 (drop at (now (area .entry)))) ⌝ }
 {
     if area.len() <= at {
         return 0;
     }
-    let left = area.len() - at;
-    if left < 8 {
-        return gather(area, at, left);
+    gather(area, at, area.len() - at)
+}
+
+// The bytes from `at` on as a number, little end first, where at most seven are left of an area of more: the last eight, without those before `at`. A shift
+// instead of a loop, so that a loop over rows keeps its numbers in registers.
+fn fetch_last(area: &[u8], at: usize) -> u64
+    requires { ⌜ (8 ≤ length (now area)) × (length (now area) < at + 8) ⌝ }
+    ensures { λ r. ⌜ r ≡ bytesNum (take 8 (drop at (now (area .entry)))) ⌝ }
+{
+    if area.len() <= at {
+        return 0;
+    }
+    let start = area.len() - 8;
+    gather(area, start, 8) >> (8 * (at - start))
+}
+
+// The bytes from `at` on as a number, little end first: eight of them, or as many as there are. Whether the area has eight at all does not depend on
+// the place, so that a loop over rows tests once a row.
+fn fetch(area: &[u8], at: usize) -> u64
+    ensures { λ r. ⌜ r ≡ bytesNum (take 8 (drop at (now (area .entry)))) ⌝ }
+{
+    if area.len() < 8 {
+        return fetch_short(area, at);
+    }
+    if area.len() - 8 < at {
+        return fetch_last(area, at);
     }
     gather(area, at, 8)
 }
 
-// Internal: asks for a legal width. The number at `index` of an area packed at `width` bits; what lies past the area's end
-// counts as zero bits.
+// Internal: asks for a legal width. The number whose first bit is `bit`, of an area packed at `width` bits; what lies past the area's end counts as
+// zero bits.
+pub fn get_at(area: &[u8], width: u8, bit: usize) -> u64
+    requires { ⌜ legal width ≡ true ⌝ }
+    ensures { λ r. ⌜ ((index : ℕ) → bit ≡ index * width → r ≡ unpack width (now (area .entry)) index) ⌝ }
+{
+    let word = fetch(area, bit / 8);
+    field(word, bit % 8, width)
+}
+
+// Internal: asks for the same. The number at `index`.
 pub fn get(area: &[u8], width: u8, index: u32) -> u64
     requires { ⌜ legal width ≡ true ⌝ }
     ensures { λ r. ⌜ r ≡ unpack width (now (area .entry)) index ⌝ }
 {
-    let bit = (index as usize) * (width as usize);
-    let word = fetch(area, bit / 8);
-    field(word, bit % 8, width)
+    get_at(area, width, (index as usize) * (width as usize))
 }

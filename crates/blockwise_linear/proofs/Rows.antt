@@ -4,7 +4,7 @@
 --     row-is            the line plus the number, both at the row within the block, is the row's multiple
 -- Assumes nothing.
 use Prim.Native.Nat.{ℕ, _+_, _-_, _%_, _≤_}
-use mathlib.Core.Path.{_≡_, refl, sym, ap, _∙_}
+use mathlib.Core.Path.{_≡_, refl, sym, _∙_}
 use mathlib.Core.Bool.{Bool, true, false}
 use mathlib.Core.Logic.{⊎-elim}
 use mathlib.Core.List.{List}
@@ -16,7 +16,7 @@ use borrow.Rule.Slice.PartAt.{part-to-end}
 use Rattle.format.specs.declared.Block.{Block}
 use Rattle.format.specs.declared.Codec.the-variants.{Blockwise}
 use Rattle.format.specs.declared.Column.{Column}
-use Rattle.format.specs.Outcome.{Outcome, pick}
+use Rattle.format.specs.Outcome.{pick}
 use Rattle.format.specs.Word.{modAdd}
 use Rattle.format.specs.Line.{lineAt}
 use Rattle.format.specs.Packing.{unpack, numOf}

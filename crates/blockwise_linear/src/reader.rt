@@ -369,7 +369,7 @@ fn numbers_start(column: Column, block: Block) -> usize
     column.start + block.start as usize
 }
 
-// The rows from `first` on, by the line of their block and the numbers that stand at a width in an area, each scaled, up to the first above the count.
+// The rows of one block from `first` on, by the line of that block and the numbers that stand at a width in an area, each scaled, up to the first above the count.
 fn line_rows(
     area: &[u8],
     line: Line,
@@ -380,27 +380,31 @@ fn line_rows(
 ) -> usize
     requires { ⌜ legal bits ≡ true ⌝ }
     requires { ⌜ column .minimum + column .count * column .gcd < 2 ^ 64 ⌝ }
-    requires { ⌜ first + length (now out) ≤ 2 ^ 32 ⌝ }
+    requires { ⌜ first % 512 + length (now out) ≤ 512 ⌝ }
     ensures { λ n. ⌜ filledTo n first (now (out .exit)) ≡ readRun (λ (r : ℕ). scaled column r (modAdd (lineAt line (r % 512)) (unpack bits (now (area .entry)) (r % 512)))) first (length (now (out .entry))) ⌝ }
 {
     let minimum = column.minimum;
     let gcd = column.gcd;
     let count = column.count;
+    let from = split(ColumnRow(first)).row.0;
+    let step = bits as usize;
+    let mut bit = from as usize * step;
     let mut i = 0;
     while i < out.len() {
-        let within = split(ColumnRow(first + i as u32)).row;
-        let number = bitpacker::get(area, bits, within.0);
-        let multiple = word::add(line::eval(line, within.0 as u64), number);
+        let within = from + i as u32;
+        let number = bitpacker::get_at(area, bits, bit);
+        let multiple = word::add(line::eval(line, within as u64), number);
         if count < multiple {
             return i;
         }
         out[i] = minimum + gcd * multiple;
+        bit += step;
         i += 1;
     }
     i
 }
 
-// Internal: asks for the same, and for rows below 2^32. The values of the rows of a block from `first` on, as many as the list has room for, up to the first that is out of bounds: returns how many.
+// Internal: asks for the same, and for rows of one block. The values of the rows of a block from `first` on, as many as the list has room for, up to the first that is out of bounds: returns how many.
 pub fn get_range(
     column: Column,
     block: Block,
@@ -409,7 +413,7 @@ pub fn get_range(
     out: &mut [u64],
 ) -> usize
     requires { ⌜ Readable column block (now bytes) ⌝ }
-    requires { ⌜ first .0 + length (now out) ≤ 2 ^ 32 ⌝ }
+    requires { ⌜ first .0 % 512 + length (now out) ≤ 512 ⌝ }
     ensures { λ n. ⌜ filledTo n (first .0) (now (out .exit)) ≡ readRun (valueAt column block (now (bytes .entry))) (first .0) (length (now (out .entry))) ⌝ }
 {
     let start = numbers_start(column, block);

@@ -80,10 +80,12 @@ fn line_rows(
     requires { ⌜ first + length (now out) ≤ 2 ^ 32 ⌝ }
     ensures { λ n. ⌜ filledTo n first (now (out .exit)) ≡ readRun (λ (r : ℕ). bounded minimum maximum r (modAdd (lineAt line r) (unpack bits (now (area .entry)) r))) first (length (now (out .entry))) ⌝ }
 {
+    let step = bits as usize;
+    let mut bit = first as usize * step;
     let mut i = 0;
     while i < out.len() {
         let row = first + i as u32;
-        let number = bitpacker::get(area, bits, row);
+        let number = bitpacker::get_at(area, bits, bit);
         let value = word::add(line::eval(line, row as u64), number);
         if value < minimum {
             return i;
@@ -92,6 +94,7 @@ fn line_rows(
             return i;
         }
         out[i] = value;
+        bit += step;
         i += 1;
     }
     i

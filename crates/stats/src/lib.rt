@@ -118,11 +118,17 @@ pub fn head_write(out: &mut [u8], at: usize, stats: ColumnStats) -> usize
     vint::write(out, next, stats.rows as u64)
 }
 
-// Whether the maximum that a head states, minimum + count * gcd, is a number of 64 bits. The room above the minimum is divided by
-// the gcd instead of multiplying: a difference and a quotient of numbers of 64 bits have 64 bits too, so nothing can wrap.
+// Whether the maximum that a head states, minimum + count * gcd, is a number of 64 bits. Two factors below 2^32 are multiplied, which is what nearly
+// all columns come to. Else the room above the minimum is divided by the gcd: a difference and a quotient of numbers of 64 bits have 64 bits too, so
+// nothing can wrap.
 pub fn bounds_fit(minimum: u64, count: u64, gcd: u64) -> bool
     ensures { λ r. ⌜ r ≡ ltb (minimum + count * gcd) (2 ^ 64) ⌝ }
 {
+    if gcd <= 0xffff_ffff {
+        if count <= 0xffff_ffff {
+            return count * gcd <= u64::MAX - minimum;
+        }
+    }
     if gcd == 0 {
         return true;
     }

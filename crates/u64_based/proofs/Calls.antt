@@ -39,7 +39,7 @@ use Rattle.format.proofs.Rows.{own-row}
 use Rattle.format.proofs.Writes.{written-as}
 use Rattle.format.proofs.Demand2.{demand2, written-shortest}
 use Rattle.format.proofs.Demand3.{demand3}
-use Rattle.format.specs.Calls.{OpenedAs, FoundAs, SerializedAs}
+use Rattle.format.specs.Calls.{FoundAs, OpenedAs, SerializedAs}
 
 -- ---- opening
 

@@ -22,7 +22,7 @@ use Rattle.format.specs.Stats.{stated}
 use Rattle.format.specs.Typed.{storedAs}
 use Rattle.format.specs.Writing.{written}
 use Rattle.format.proofs.Answers.{stated-injective, written-injective, opened-injective, row-injective, found-injective, run-injective}
-use Rattle.format.specs.Calls.{SerializedAs, OpenedAs, FoundAs, RunAs}
+use Rattle.format.specs.Calls.{FoundAs, RunAs, SerializedAs, OpenedAs}
 
 -- two answers of `column_stats`
 pub stats-determined : (values : List ℕ) (a b : Stated) → statedMeaning a ≡ stated values → statedMeaning b ≡ stated values → a ≡ b

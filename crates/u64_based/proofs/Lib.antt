@@ -2,16 +2,6 @@
 
 -- opening
 pub mod Opens
--- reading a row
-pub mod Fitting
--- decoding
-pub mod Chunks
--- looking rows up
-pub mod Scans
-pub mod Turns
-pub mod Seeking
--- runs
-pub mod Walking
 -- what the contracts come to
 pub mod Determined
 pub mod Calls

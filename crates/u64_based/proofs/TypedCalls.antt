@@ -44,7 +44,7 @@ use Rattle.format.proofs.Answers.{opened-injective, signed-injective, flag-inje
 use Rattle.format.proofs.Writes.{written-as}
 use Rattle.format.proofs.TypedLookups.{row-words, covered-lookup, signed-covers, flag-covers, float-covers}
 use Rattle.format.proofs.TypedDemands.{returns-as, shortest-as, tell-typed}
-use Rattle.format.specs.Calls.{OpenedAs, FoundAs, SerializedAs}
+use Rattle.format.specs.Calls.{FoundAs, OpenedAs, SerializedAs}
 use Rattle.u64_based.proofs.Calls.{Opens, reads, written-of, front-of}
 
 -- ---- demand 2

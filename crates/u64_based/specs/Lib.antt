@@ -1,4 +1,1 @@
 pub mod Opening
-pub mod Chunks
-pub mod Lookup
-pub mod Running

@@ -1,9 +1,6 @@
 // A column of numbers of 64 bits: the entry points. No argument makes a call fail but by a numbered refusal, and each contract
 // says what a call answers and what every lent entry holds afterwards.
-mod finding;
 pub mod opening;
-mod reader;
-mod runs;
 
 ghost use mathlib.Core.Path.{_≡_};
 ghost use Prim.Native.Nat.{_/_};
@@ -109,7 +106,7 @@ pub fn row(column: Column, table: &[u64], bytes: &[u8], row: ColumnRow) -> RowRe
 {
     let k = blockwise_linear::reader::split(row).block;
     let block = blockwise_linear::reader::block_at(table, k);
-    reader::row_in(column, table.len() / 4, block, bytes, row)
+    reading::reader::row_in(column, table.len() / 4, block, bytes, row)
 }
 
 // The rows from `first` to `end`, cut to the column's rows, whose value lies from `low` to `high`, ascending into the first entries of `found`. The
@@ -127,12 +124,12 @@ pub fn lookup(
     ensures { λ r. ⌜ FoundAs (lookedUp (rowAt column (now (table .entry)) (now (bytes .entry))) (column .rows) (within low high) first end (length (now (found .entry)))) r (now (found .entry)) (now (found .exit)) ⌝ }
 {
     let blocks = table.len() / 4;
-    let mut s = finding::begin(column.rows, first, end);
-    while s.going {
-        let block = blockwise_linear::reader::block_at(table, finding::block_of(s));
-        s = finding::step(column, blocks, block, bytes, low, high, s, found);
+    let mut w = reading::finding::begin(column.rows, first, end);
+    while w.going {
+        let block = blockwise_linear::reader::block_at(table, reading::walks::block_of(w));
+        w = reading::finding::step(column, blocks, block, bytes, low, high, w, found);
     }
-    s.answer
+    reading::finding::answer(w)
 }
 
 // The values of the column's rows from `first` on, as many as the lent list has entries, into that list. A run that leaves the rows is refused before all else; then the
@@ -141,10 +138,10 @@ pub fn run(column: Column, table: &[u64], bytes: &[u8], first: u32, out: &mut [u
     ensures { λ r. ⌜ RunAs (decoded (rowAt column (now (table .entry)) (now (bytes .entry))) (column .rows) first (length (now (out .entry)))) r (now (out .entry)) (now (out .exit)) ⌝ }
 {
     let blocks = table.len() / 4;
-    let mut w = runs::begin(column.rows, first, out.len());
+    let mut w = reading::runs::begin(column.rows, first, out.len());
     while w.going {
-        let block = blockwise_linear::reader::block_at(table, runs::block_of(w));
-        w = runs::step(column, blocks, block, bytes, w, out);
+        let block = blockwise_linear::reader::block_at(table, reading::walks::block_of(w));
+        w = reading::runs::step(column, blocks, block, bytes, w, out);
     }
-    w.answer
+    reading::runs::answer(w)
 }

@@ -34,6 +34,7 @@ mod ffi;
 mod refusal;
 mod typed;
 
+use std::iter::FusedIterator;
 use std::ops::{Range, RangeInclusive};
 
 pub use refusal::Refusal;
@@ -209,6 +210,11 @@ impl<'a> Column<'a> {
         ffi::run(&self.numbers, &self.table, self.bytes, first, out)
     }
 
+    /// The values of all rows in turn, each as [`Column::row`] answers it. They are decoded a chunk at a time.
+    pub fn values(&self) -> Values<'_> {
+        Values { column: self, next: 0, first: 0, chunk: Vec::new(), whole: true }
+    }
+
     /// The rows of a run whose value lies in a range, ascending. The run's end is cut to the column's rows. The first row of the run that
     /// [`Column::row`] refuses decides, whatever the range is. Refused 13 and 14.
     pub fn lookup(&self, values: RangeInclusive<u64>, rows: Range<u32>) -> Result<Vec<u32>, Refusal> {
@@ -232,3 +238,48 @@ impl<'a> Column<'a> {
         ffi::lookup(&self.numbers, &self.table, self.bytes, bounds, (rows.start, rows.end), found)
     }
 }
+
+/// The values of a column's rows in turn: [`Column::values`].
+#[derive(Clone, Debug)]
+pub struct Values<'c> {
+    column: &'c Column<'c>,
+    next: u32,
+    first: u32,
+    chunk: Vec<u64>,
+    whole: bool,
+}
+
+impl Values<'_> {
+    /// Decodes the rows from the next one on up to a multiple of 512: none of them lies in another block. Where one is refused, each is asked for by itself.
+    fn decode(&mut self) {
+        let size = (512 - self.next % 512).min(self.column.rows() - self.next);
+        self.first = self.next;
+        self.chunk.resize(size as usize, 0);
+        self.whole = self.column.run_into(self.first, &mut self.chunk).is_ok();
+    }
+}
+
+impl Iterator for Values<'_> {
+    type Item = Result<u64, Refusal>;
+
+    fn next(&mut self) -> Option<Self::Item> {
+        if self.column.rows() <= self.next {
+            return None;
+        }
+        if self.chunk.len() <= (self.next - self.first) as usize {
+            self.decode();
+        }
+        let row = self.next;
+        self.next += 1;
+        Some(if self.whole { Ok(self.chunk[(row - self.first) as usize]) } else { self.column.row(row) })
+    }
+
+    fn size_hint(&self) -> (usize, Option<usize>) {
+        let left = (self.column.rows() - self.next) as usize;
+        (left, Some(left))
+    }
+}
+
+impl ExactSizeIterator for Values<'_> {}
+
+impl FusedIterator for Values<'_> {}

@@ -6,18 +6,17 @@ use denote.Ref.{now}
 use lib.ListN.{length}
 use Rattle.format.specs.Lookup.{lookedUp, within}
 use Rattle.format.specs.Reading.{blockAt, rowAt}
-use Rattle.format.specs.Calls.{FoundAs}
-use Rattle.u64_based.specs.Lookup.{left, Seeking}
-use Rattle.u64_based.proofs.Seeking.{is-going, is-over, kept-long}
+use Rattle.reading.specs.Walks.{Kept.rowsOf, left, Walking}
+use Rattle.reading.proofs.Walking.{is-passing, is-over, kept-long}
 use borrow.Author.Needs.{needs}
 use Rattle.u64_based.proofs.lookup.Statement.{statement}
 use Rattle.u64_based.proofs.lookup.Tie as tie
 
 abbrev Inv-loop : tie.InvT-loop
-Inv-loop column table bytes low high first end found₀ blocks s₀ found s = Seeking (rowAt column table bytes) (within low high) (column .rows) (lookedUp (rowAt column table bytes) (column .rows) (within low high) first end (length found₀)) found₀ s found
+Inv-loop column table bytes low high first end found₀ blocks w₀ found w = Walking (rowsOf (within low high)) (rowAt column table bytes) (column .rows) (lookedUp (rowAt column table bytes) (column .rows) (within low high) first end (length found₀)) found₀ w found
 
 abbrev μ-loop : tie.MeasureT-loop
-μ-loop column table bytes low high first end found₀ blocks s₀ found s = left s
+μ-loop column table bytes low high first end found₀ blocks w₀ found w = left w
 
 begin-requires : tie.Need-begin-requires Inv-loop μ-loop
 begin-requires c κs = search needs
@@ -34,7 +33,8 @@ block-at-requires c κs = search needs
 step-requires : tie.Need-step-requires Inv-loop μ-loop
 step-requires c κs =
     let k = c .before .before .before in
-    is-going _ _ _ _ _ _ _ (k .before .loop .inv) (k .loop-test .taken)
+    let f = is-passing (k .before .loop .inv) (k .loop-test .taken) in
+    (f .going, f .inside)
 
 loop-less : tie.Need-loop-less Inv-loop μ-loop
 loop-less c = c .before .before .step .ensures .1
@@ -47,11 +47,14 @@ loop-again c =
     let a = l .before .before .before .before .before .before .args in
     k .step .ensures .0 (now (a .table)) _ _ refl (b .block-at .ensures ∙ ap (blockAt (now (a .table))) (b .before .block-of .ensures)) (l .before .loop .inv)
 
+answer-requires : tie.Need-answer-requires Inv-loop μ-loop
+answer-requires c κs = search needs
+
 same-length : tie.Need-same-length Inv-loop μ-loop
-same-length c = kept-long (is-over _ _ _ _ _ _ _ (c .before .loop .inv) (c .loop-test .left))
+same-length c = kept-long (is-over (c .before .before .loop .inv) (c .before .loop-test .left))
 
 returns : tie.Need-returns Inv-loop μ-loop
-returns c = is-over _ _ _ _ _ _ _ (c .before .loop .inv) (c .loop-test .left)
+returns c = c .answer .ensures _ _ _ (is-over (c .before .before .loop .inv) (c .before .loop-test .left))
 
 pub lookup-spec : {M : Type 1} → statement M
 lookup-spec =
@@ -66,5 +69,6 @@ lookup-spec =
     step-requires
     loop-less
     loop-again
+    answer-requires
     same-length
     returns)

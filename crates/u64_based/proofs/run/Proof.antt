@@ -5,14 +5,14 @@ use denote.Ref.{now}
 use lib.ListN.{length}
 use Rattle.format.specs.Reading.{blockAt, rowAt}
 use Rattle.format.specs.Runs.{decoded}
-use Rattle.u64_based.specs.Running.{left, Walking}
-use Rattle.u64_based.proofs.Walking.{is-passing, is-over, passing-long, run-kept-long}
+use Rattle.reading.specs.Walks.{Kept.allValues, left, Walking}
+use Rattle.reading.proofs.Walking.{is-passing, is-over, passing-run, kept-long}
 use borrow.Author.Needs.{needs}
 use Rattle.u64_based.proofs.run.Statement.{statement}
 use Rattle.u64_based.proofs.run.Tie as tie
 
 abbrev Inv-loop : tie.InvT-loop
-Inv-loop column table bytes first out₀ blocks w₀ out w = Walking (rowAt column table bytes) (column .rows) (decoded (rowAt column table bytes) (column .rows) first (length out₀)) out₀ w out
+Inv-loop column table bytes first out₀ blocks w₀ out w = Walking allValues (rowAt column table bytes) (column .rows) (decoded (rowAt column table bytes) (column .rows) first (length out₀)) out₀ w out
 
 abbrev μ-loop : tie.MeasureT-loop
 μ-loop column table bytes first out₀ blocks w₀ out w = left w
@@ -33,7 +33,8 @@ step-requires : tie.Need-step-requires Inv-loop μ-loop
 step-requires c κs =
     let k = c .before .before .before in
     let f = is-passing (k .before .loop .inv) (k .loop-test .taken) in
-    (f .going, f .inside, passing-long f)
+    let p = passing-run f in
+    (f .going, f .inside, p .0, p .1)
 
 loop-less : tie.Need-loop-less Inv-loop μ-loop
 loop-less c = c .before .before .step .ensures .1
@@ -46,11 +47,14 @@ loop-again c =
     let a = l .before .before .before .before .before .before .args in
     k .step .ensures .0 (now (a .table)) _ _ refl (b .block-at .ensures ∙ ap (blockAt (now (a .table))) (b .before .block-of .ensures)) (l .before .loop .inv)
 
+answer-requires : tie.Need-answer-requires Inv-loop μ-loop
+answer-requires c κs = search needs
+
 same-length : tie.Need-same-length Inv-loop μ-loop
-same-length c = run-kept-long (is-over (c .before .loop .inv) (c .loop-test .left))
+same-length c = kept-long (is-over (c .before .before .loop .inv) (c .before .loop-test .left))
 
 returns : tie.Need-returns Inv-loop μ-loop
-returns c = is-over (c .before .loop .inv) (c .loop-test .left)
+returns c = c .answer .ensures _ _ _ (is-over (c .before .before .loop .inv) (c .before .loop-test .left))
 
 pub run-spec : {M : Type 1} → statement M
 run-spec =
@@ -65,5 +69,6 @@ run-spec =
     step-requires
     loop-less
     loop-again
+    answer-requires
     same-length
     returns)

@@ -126,11 +126,35 @@ fn compare_rows(tally: &mut Tally, column: &Column, theirs: &rust::Opened) {
         }
     }
     tally.alike("rows", answers.len());
-    if answers.len() == rows as usize && theirs.run(rows).as_deref() != Ok(&answers) {
-        tally.differ("run of rows", None, bytes.len(), || hex(bytes));
-    }
     if column.row(column.rows()) != Err(Refusal { number: 12, value: 0 }) {
         tally.differ("row behind the last", None, bytes.len(), || hex(bytes));
+    }
+}
+
+/// Runs of rows: as the rows one by one answer, and as the Rust does where none is refused.
+fn compare_runs(tally: &mut Tally, random: &mut Random, column: &Column, theirs: &rust::Opened) {
+    let rows = column.rows().min(READ);
+    let bytes = column.bytes();
+    for _ in 0..3 {
+        let any = random.below(rows as usize + 1) as u32;
+        let first = random.pick(&[0, any, any / 512 * 512]);
+        let left = (rows - first) as usize;
+        let some = random.below(left + 1);
+        let many = random.pick(&[left, some, left.min(1)]);
+        let mut out = vec![u64::MAX; many];
+        let ours = column.run_into(first, &mut out).map(|_| out.clone());
+        let singly: Result<Vec<u64>, Refusal> = (first..first + many as u32).map(|row| column.row(row)).collect();
+        let untouched = ours.is_ok() || out.iter().all(|&value| value == u64::MAX);
+        let same = ours.is_err() || theirs.run(first, many).as_ref() == Ok(&out);
+        if ours == singly && untouched && same {
+            tally.alike("runs of rows", 1);
+        } else {
+            tally.differ("run of rows", None, bytes.len(), || format!("{} {many} rows from {first}: {ours:?}", hex(bytes)));
+        }
+    }
+    let behind = column.run_into(column.rows(), &mut [0]);
+    if behind != Err(Refusal { number: 12, value: 0 }) || column.run_into(column.rows(), &mut []) != Ok(0) {
+        tally.differ("run behind the last row", None, bytes.len(), || hex(bytes));
     }
 }
 
@@ -167,6 +191,7 @@ fn compare_column(tally: &mut Tally, random: &mut Random, bytes: &[u8], values: 
             }
             tally.alike(format!("{whose} columns opened"), 1);
             compare_rows(tally, &column, &theirs);
+            compare_runs(tally, random, &column, &theirs);
             compare_lookups(tally, random, &column, &theirs, values);
         }
         (Err(refusal), Err(failed)) => {

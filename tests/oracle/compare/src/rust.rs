@@ -45,9 +45,9 @@ impl<T: MonotonicallyMappableToU64> Opened<T> {
         guarded(|| self.0.get_val(row))
     }
 
-    pub fn run(&self, rows: u32) -> Result<Vec<T>, Failed> {
-        let mut out = vec![T::from_u64(0); rows as usize];
-        guarded(|| self.0.get_range(0, &mut out))?;
+    pub fn run(&self, first: u32, rows: usize) -> Result<Vec<T>, Failed> {
+        let mut out = vec![T::from_u64(0); rows];
+        guarded(|| self.0.get_range(u64::from(first), &mut out))?;
         Ok(out)
     }
 

@@ -174,7 +174,7 @@ fn compare_column<T: Typed>(tally: &mut Tally, random: &mut Random, bytes: &[u8]
     };
     let ours: Vec<_> = (0..column.rows()).map(|row| column.row_as::<T>(row).ok().map(T::bits)).collect();
     let rows: Vec<_> = (0..column.rows()).map(|row| theirs.row(row).ok().map(T::their_bits)).collect();
-    let run = theirs.run(column.rows()).map(|run| run.into_iter().map(|value| Some(T::their_bits(value))).collect());
+    let run = theirs.run(0, column.rows() as usize).map(|run| run.into_iter().map(|value| Some(T::their_bits(value))).collect());
     let mut own = vec![T::of(0); rows.len()];
     let filled = column.run_as_into(0, &mut own);
     let own: Vec<_> = own.into_iter().map(|value| Some(value.bits())).collect();

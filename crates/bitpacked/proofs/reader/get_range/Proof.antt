@@ -1,6 +1,5 @@
 -- `bitpacked::reader::get_range` meets its contract: the part from the area's start on holds each row's number, at the width of the count.
 -- Assumes nothing.
-use Prim.Native.Nat.{ℕ, _+_, _≤_, _<_}
 use mathlib.Core.Path.{ap, _∙_}
 use denote.Ref.{now}
 use Rattle.format.specs.Packing.{legal}
@@ -10,39 +9,28 @@ use Rattle.bitpacked.proofs.Rows.{row-is}
 use borrow.Author.Needs.{needs}
 use Rattle.bitpacked.proofs.reader.get_range.Statement.{statement}
 use Rattle.bitpacked.proofs.reader.get_range.Tie as tie
-use Rattle.bitpacked.proofs.reader.get_range.Reads as reads
-use Rattle.bitpacked.proofs.reader.get_range.Lts as lts
-use Rattle.bitpacked.proofs.reader.scale_rows.Reads as scale-rows-reads
-use Rattle.bitpacker.proofs.compute_num_bits.Reads as compute-num-bits-reads
 
--- src/reader.rt:88:9
 compute-num-bits-requires : tie.Need-compute-num-bits-requires
 compute-num-bits-requires c κs = search needs
 
--- src/reader.rt:89:16
 sub-scale-rows : tie.Need-sub-scale-rows
 sub-scale-rows c = search needs
 
--- src/reader.rt:89:16
 part-scale-rows-start : tie.Need-part-scale-rows-start
 part-scale-rows-start c = search needs
 
--- src/reader.rt:89:16
 part-scale-rows-end : tie.Need-part-scale-rows-end
 part-scale-rows-end c = search needs
 
--- src/reader.rt:89:5
 scale-rows-requires : tie.Need-scale-rows-requires
 scale-rows-requires c κs =
     let k = c .before .before in
     let s = k .before .before .before in
     (ap legal (k .compute-num-bits .ensures) ∙ width-legal _, (s .pre .0 .bounds, s .pre .1))
 
--- src/reader.rt:82:1
 same-length : tie.Need-same-length
 same-length c = search needs
 
--- src/reader.rt:82:1
 returns : tie.Need-returns
 returns c block =
     let k = c .before .before in

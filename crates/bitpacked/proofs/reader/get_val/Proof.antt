@@ -1,21 +1,10 @@
 -- `bitpacked::reader::get_val` meets its contract: the part from the area's start on holds the row's number, at the width of the count.
 -- Assumes nothing.
-use Prim.Native.Nat.{ℕ, _+_, _-_}
-use mathlib.Core.Path.{_≡_, sym, ap, _∙_}
-use mathlib.Core.Bool.{true}
-use mathlib.Core.List.{List}
-use native.Mathlib.Nat.{add-zero}
+use mathlib.Core.Path.{ap, _∙_}
 use denote.Ref.{now}
-use lib.ListN.{length, take, drop}
-use borrow.Rule.Slice.PartAt.{part-to-end}
 use borrow.Author.Needs.{needs}
-use Rattle.format.specs.declared.Block.{Block}
-use Rattle.format.specs.declared.Codec.{Codec}
-use Rattle.format.specs.declared.Codec.the-variants.{Bitpacked}
-use Rattle.format.specs.declared.Column.{Column}
-use Rattle.format.specs.Outcome.{Outcome}
-use Rattle.format.specs.Packing.{width, legal, unpack}
-use Rattle.format.specs.Reading.{placeIn, packedOf, scaled, valueIn}
+use Rattle.format.specs.Packing.{legal}
+use Rattle.format.specs.Reading.{scaled}
 use Rattle.format.proofs.Widths.{width-legal}
 use Rattle.bitpacked.proofs.Rows.{number-is, value-is}
 use Rattle.bitpacked.proofs.reader.get_val.Statement.{statement}

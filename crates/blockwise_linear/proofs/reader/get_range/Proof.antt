@@ -1,6 +1,6 @@
 -- `blockwise_linear::reader::get_range` meets its contract: the part from the block's start on holds each row's number.
 -- Assumes nothing.
-use mathlib.Core.Path.{_≡_, sym, subst, _∙_}
+use mathlib.Core.Path.{_∙_}
 use mathlib.Core.Logic.{inl, inr, ⊎-elim}
 use native.Mathlib.Omega.{arith}
 use denote.Ref.{now}
@@ -10,48 +10,36 @@ use Rattle.blockwise_linear.proofs.Rows.{start-inside, row-is}
 use borrow.Author.Needs.{needs}
 use Rattle.blockwise_linear.proofs.reader.get_range.Statement.{statement}
 use Rattle.blockwise_linear.proofs.reader.get_range.Tie as tie
-use Rattle.blockwise_linear.proofs.reader.get_range.Reads as reads
-use Rattle.blockwise_linear.proofs.reader.get_range.Lts as lts
-use Rattle.blockwise_linear.proofs.reader.line_rows.Reads as line-rows-reads
-use Rattle.blockwise_linear.proofs.reader.numbers_start.Reads as numbers-start-reads
 
--- src/reader.rt:349:9
 numbers-start-requires : tie.Need-numbers-start-requires
 numbers-start-requires c κs =
     let s = c .before .before in
     ⊎-elim (λ none. inl none) (λ inside. inr (omega (arith, inside))) (s .pre .0 .start)
 
--- src/reader.rt:350:15
 sub-line-rows : tie.Need-sub-line-rows
 sub-line-rows c =
     let s = c .before .before .before in
     omega (arith, c .numbers-start .ensures, start-inside (s .args .column) (s .args .block) (now (s .args .bytes)) (s .pre .0))
 
--- src/reader.rt:350:15
 part-line-rows-start : tie.Need-part-line-rows-start
 part-line-rows-start c =
     let s = c .before .before .before in
     omega (arith, c .numbers-start .ensures, start-inside (s .args .column) (s .args .block) (now (s .args .bytes)) (s .pre .0))
 
--- src/reader.rt:350:15
 part-line-rows-end : tie.Need-part-line-rows-end
 part-line-rows-end c = search needs
 
--- src/reader.rt:350:44
 cast-line-rows : tie.Need-cast-line-rows
 cast-line-rows c =
     let s = c .before .before .before .before .before in
     record { fits = omega (arith, legal-most (s .args .block .bits) (s .pre .0 .lawful)) }
 
--- src/reader.rt:350:5
 line-rows-requires : tie.Need-line-rows-requires
 line-rows-requires c κs = search needs
 
--- src/reader.rt:338:1
 same-length : tie.Need-same-length
 same-length c = search needs
 
--- src/reader.rt:338:1
 returns : tie.Need-returns
 returns c =
     let k = c .before .before in

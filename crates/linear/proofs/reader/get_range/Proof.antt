@@ -7,39 +7,28 @@ use Rattle.linear.proofs.Rows.{row-is}
 use borrow.Author.Needs.{needs}
 use Rattle.linear.proofs.reader.get_range.Statement.{statement}
 use Rattle.linear.proofs.reader.get_range.Tie as tie
-use Rattle.linear.proofs.reader.get_range.Reads as reads
-use Rattle.linear.proofs.reader.get_range.Lts as lts
-use Rattle.linear.proofs.reader.line_rows.Reads as line-rows-reads
 
--- src/reader.rt:111:36
 mul-maximum : tie.Need-mul-maximum
 mul-maximum c = search needs
 
--- src/reader.rt:111:19
 add-maximum : tie.Need-add-maximum
 add-maximum c = search needs
 
--- src/reader.rt:113:9
 sub-line-rows : tie.Need-sub-line-rows
 sub-line-rows c = search needs
 
--- src/reader.rt:113:9
 part-line-rows-start : tie.Need-part-line-rows-start
 part-line-rows-start c = search needs
 
--- src/reader.rt:113:9
 part-line-rows-end : tie.Need-part-line-rows-end
 part-line-rows-end c = search needs
 
--- src/reader.rt:112:5
 line-rows-requires : tie.Need-line-rows-requires
 line-rows-requires c κs = search needs
 
--- src/reader.rt:98:1
 same-length : tie.Need-same-length
 same-length c = search needs
 
--- src/reader.rt:98:1
 returns : tie.Need-returns
 returns c block =
     let k = c .before .before in

@@ -1,25 +1,16 @@
 -- `linear::reader::get_val` meets its contract: the part from the area's start on holds the row's number, and the tests are those of the bounds.
 -- Assumes nothing.
-use Prim.Native.Nat.{ℕ, _+_, _-_, _*_}
+use Prim.Native.Nat.{_+_, _*_}
 use mathlib.Core.Path.{_≡_}
 use mathlib.Core.Bool.{Bool, true, false, _&&_}
-use mathlib.Core.List.{List, [], _∷_}
-use native.Mathlib.Nat.{add-zero}
+use mathlib.Core.List.{[], _∷_}
 use denote.Ref.{now}
 use lib.Dec.{leb}
-use lib.ListN.{length, take, drop}
-use borrow.Rule.Slice.PartAt.{part-to-end}
 use borrow.Author.Needs.{needs}
 use borrow.Author.Tests.{le-leb, lt-leb}
 use Rattle.format.specs.declared.Block.{Block}
-use Rattle.format.specs.declared.Codec.the-variants.{Linear}
-use Rattle.format.specs.declared.Column.{Column}
-use Rattle.format.specs.declared.Line.{Line}
 use Rattle.format.specs.Outcome.{Outcome.value, _>>_, demand}
-use Rattle.format.specs.Word.{modAdd}
-use Rattle.format.specs.Line.{lineAt}
-use Rattle.format.specs.Packing.{unpack}
-use Rattle.format.specs.Reading.{placeIn, packedOf, valueIn}
+use Rattle.format.specs.Reading.{packedOf, valueIn}
 use Rattle.linear.proofs.Rows.{value-is}
 use Rattle.linear.proofs.reader.get_val.Statement.{statement}
 use Rattle.linear.proofs.reader.get_val.Tie as tie

@@ -1,0 +1,11 @@
+-- Laws of reading; the head of each file lists what it offers.
+
+-- a row
+pub mod Fitting
+-- decoding
+pub mod Chunks
+-- looking rows up
+pub mod Scans
+pub mod Turns
+-- lookups and runs under way
+pub mod Walking

@@ -1,0 +1,97 @@
+-- `reading::finding::step_through` meets its contract: the chunk is refused, or behind it the lookup goes on.
+-- Assumes nothing.
+use mathlib.Core.Path.{sym, subst, _∙_}
+use mathlib.Core.List.{List}
+use Prim.Native.Nat.{ℕ}
+use denote.Ref.{now}
+use Rattle.format.specs.Lookup.{within}
+use Rattle.format.specs.Reading.{rowAt}
+use Rattle.reading.specs.Walks.{Kept.rowsOf, Walking}
+use Rattle.reading.proofs.Chunks.{whole-long, whole-run, refused-run}
+use Rattle.reading.proofs.Scans.{rows-few}
+use Rattle.reading.proofs.Walking.{ended, is-passing, passing-long, refuses, falls-over}
+use borrow.Author.Needs.{needs}
+use Rattle.reading.proofs.finding.step_through.Statement.{statement}
+use Rattle.reading.proofs.finding.step_through.Tie as tie
+
+-- the function's entry
+abbrev entry : tie.After-decode → tie.Start
+entry d = d .before .before .before .before .before
+
+decode-requires : tie.Need-decode-requires
+decode-requires c κs = search needs
+
+enum-known-decoded : tie.Need-enum-known-decoded
+enum-known-decoded c = search needs
+
+over-requires : tie.Need-over-requires
+over-requires c κs = search needs
+
+same-length : tie.Need-same-length
+same-length c = search needs
+
+returns : tie.Need-returns
+returns c =
+    let a = c .before .before in
+    let d = a .before .before .before .before in
+    let s = entry d in (
+      (λ table before o number block f.
+          ended (c .over .ensures .0) (c .over .ensures .1)
+          (refuses (rowsOf (within (s .args .low) (s .args .high))) (rowAt (s .args .column) table (now (s .args .bytes))) (is-passing f (s .pre .0 .on)) _ (s .pre .2) _
+          (refused-run (s .args .column) (now (s .args .bytes)) (s .args .w .at) (s .args .w .end) _ (s .args .blocks) (s .args .block) (s .pre .2) (d .decode .ensures) table number block (a .decoded .given .1)))),
+      falls-over _ (s .pre .0) (c .over .result) (c .over .ensures .0),
+    )
+
+enum-told : tie.Need-enum-told
+enum-told c = search needs
+
+keep-requires : tie.Need-keep-requires
+keep-requires c κs = search needs
+
+advanced-requires : tie.Need-advanced-requires
+advanced-requires c κs =
+    let k = c .before .before in
+    let e = k .before .before .before in
+    let d = e .before .before .before .before in
+    let s = entry d in (
+      s .pre .0,
+      whole-long (s .args .column) (now (s .args .bytes)) (s .args .w .at) (s .args .w .end) _ (s .args .blocks) (s .args .block) (s .pre .2) (d .decode .ensures) (e .enum-told .given .1) ∙ s .pre .2,
+      rw (k .keep .ensures .0) (rows-few _ _ _),
+    )
+
+same-length-2 : tie.Need-same-length-2
+same-length-2 c = search needs
+
+same-length-3 : tie.Need-same-length-3
+same-length-3 c = search needs
+
+returns-2 : tie.Need-returns-2
+returns-2 c =
+    let k = c .before .before .before in
+    let e = k .before .before .before in
+    let d = e .before .before .before .before in
+    let s = entry d in (
+      (λ table before o number block f.
+          let g = is-passing f (s .pre .0 .on) in
+          subst (λ (l : List ℕ). Walking (rowsOf (within (s .args .low) (s .args .high))) (rowAt (s .args .column) table (now (s .args .bytes))) (s .args .column .rows) o before (c .advanced .result) l) (sym (k .keep .ensures .1))
+          (c .advanced .ensures .0 (rowsOf (within (s .args .low) (s .args .high))) (rowAt (s .args .column) table (now (s .args .bytes))) (s .args .column .rows) o before _ _ g
+          (whole-run (s .args .column) (now (s .args .bytes)) (s .args .w .at) (s .args .w .end) _ (s .args .blocks) (s .args .block) (s .pre .2) (d .decode .ensures) table number block (e .enum-told .given .1))
+          (k .keep .ensures .0) (passing-long g))),
+      c .advanced .ensures .1,
+    )
+
+pub step-through-spec : {M : Type 1} → statement M
+step-through-spec =
+    tie.close
+    (tie.spec
+    decode-requires
+    enum-known-decoded
+    over-requires
+    same-length
+    returns
+    enum-told
+    keep-requires
+    advanced-requires
+    same-length-2
+    same-length-3
+    returns-2)

@@ -1,0 +1,136 @@
+// Decoding a run of rows: a walk that stores the value of every row.
+ghost use mathlib.Core.Path.{_≡_};
+ghost use mathlib.Core.Bool.{false};
+ghost use mathlib.Core.List.{List};
+ghost use Prim.Native.Nat.{ℕ, _+_, _-_, _/_, _≤_, _<_};
+ghost use lib.ListN.{length};
+ghost use lib.Seq.{sets};
+ghost use Rattle.format.specs.Outcome.{Outcome, pick};
+ghost use Rattle.format.specs.Reading.{blockAt, rowAt};
+ghost use Rattle.format.specs.Runs.{decoded};
+ghost use Rattle.format.specs.Calls.{RunAs};
+ghost use Rattle.reading.specs.Chunks.{chunkSize};
+ghost use Rattle.reading.specs.Walks.{Kept.allValues, WalkedAs, Going, left, Walking};
+use crate::reader::Decoded;
+use crate::walks::Walk;
+use crate::walks::Walked;
+use format::Block;
+use format::Column;
+use format::ColumnRow;
+use format::Refusal;
+use format::RunRead;
+
+// A run that is over before it begins.
+fn settled(first: u32, answer: Walked) -> Walk
+    ensures { λ r. ⌜ (r .going ≡ false) × (r .answer ≡ answer) ⌝ }
+{
+    Walk {
+        first,
+        end: first,
+        at: first,
+        n: 0,
+        storing: false,
+        going: false,
+        answer,
+    }
+}
+
+// How a run of `n` rows from `first` on begins: where it leaves the rows, or has none, it is over.
+pub fn begin(rows: u32, first: u32, n: usize) -> Walk
+    ensures { λ w. ⌜ ((read : ℕ → Outcome ℕ) (list : List ℕ) → length list ≡ n → Walking allValues read rows (decoded read rows first n) list w list) ⌝ }
+{
+    if rows < first {
+        return settled(first, Walked::Refused(Refusal::NoSuchRow));
+    }
+    if ((rows - first) as usize) < n {
+        return settled(first, Walked::Refused(Refusal::NoSuchRow));
+    }
+    if n == 0 {
+        return settled(first, Walked::Entries(0));
+    }
+    let end = first + n as u32;
+    Walk {
+        first,
+        end,
+        at: first,
+        n: 0,
+        storing: end - first <= 512 - first % 512,
+        going: true,
+        answer: Walked::Entries(n),
+    }
+}
+
+// Copies values into a list from an entry on.
+fn copy(values: &[u64], out: &mut [u64], at: usize)
+    requires { ⌜ at + length (now values) ≤ length (now out) ⌝ }
+    ensures { λ _. ⌜ now (out .exit) ≡ sets (now (out .entry)) at (now (values .entry)) ⌝ }
+{
+    let mut i = 0;
+    while i < values.len() {
+        out[at + i] = values[i];
+        i += 1;
+    }
+}
+
+// The same, in a pass that stores.
+fn keep(storing: bool, values: &[u64], out: &mut [u64], at: usize)
+    requires { ⌜ at + length (now values) ≤ length (now out) ⌝ }
+    ensures { λ _. ⌜ now (out .exit) ≡ pick storing (sets (now (out .entry)) at (now (values .entry))) (now (out .entry)) ⌝ }
+{
+    if !storing {
+        return;
+    }
+    copy(values, out, at);
+}
+
+// One turn through a buffer of the chunk's size.
+fn step_through(
+    column: Column,
+    blocks: usize,
+    block: Block,
+    bytes: &[u8],
+    w: Walk,
+    values: &mut [u64],
+    out: &mut [u64],
+) -> Walk
+    requires { ⌜ Going w × (w .end ≤ column .rows) × (length (now values) ≡ chunkSize (w .at) (w .end)) × (length (now out) ≡ w .end - w .first) × (w .n ≡ w .at - w .first) ⌝ }
+    ensures { λ r. ⌜ ((table before : List ℕ) (o : Outcome (List ℕ)) → blocks ≡ length table / 4 → block ≡ blockAt table (w .at / 512) → Walking allValues (rowAt column table (now (bytes .entry))) (column .rows) o before w (now (out .entry)) → Walking allValues (rowAt column table (now (bytes .entry))) (column .rows) o before r (now (out .exit))) ⌝ }
+    ensures { λ r. ⌜ left r < left w ⌝ }
+{
+    let answer = crate::reader::decode(column, blocks, block, bytes, ColumnRow(w.at), values);
+    if let Decoded::Refused(why) = answer {
+        return crate::walks::over(w, Walked::Refused(why));
+    }
+    let room = out.len();
+    keep(w.storing, values, out, w.n);
+    crate::walks::advanced(w, values.len(), values.len(), room)
+}
+
+// Internal: asks for a run that is going on over rows of the column, and a list of its length. One turn: the chunk at hand, with its block out of a table of so many.
+pub fn step(
+    column: Column,
+    blocks: usize,
+    block: Block,
+    bytes: &[u8],
+    w: Walk,
+    out: &mut [u64],
+) -> Walk
+    requires { ⌜ Going w × (w .end ≤ column .rows) × (length (now out) ≡ w .end - w .first) × (w .n ≡ w .at - w .first) ⌝ }
+    ensures { λ r. ⌜ ((table before : List ℕ) (o : Outcome (List ℕ)) → blocks ≡ length table / 4 → block ≡ blockAt table (w .at / 512) → Walking allValues (rowAt column table (now (bytes .entry))) (column .rows) o before w (now (out .entry)) → Walking allValues (rowAt column table (now (bytes .entry))) (column .rows) o before r (now (out .exit))) ⌝ }
+    ensures { λ r. ⌜ left r < left w ⌝ }
+{
+    let mut buffer = [0u64; 512];
+    let size = crate::walks::chunk_size(w.at, w.end);
+    step_through(column, blocks, block, bytes, w, &mut buffer[..size], out)
+}
+
+// What a run that is over found.
+pub fn answer(w: Walk) -> RunRead
+    ensures { λ r. ⌜ ((o : Outcome (List ℕ)) (before list : List ℕ) → WalkedAs o (w .answer) before list → RunAs o r before list) ⌝ }
+{
+    let answer = w.answer;
+    match answer {
+        Walked::Entries(n) => RunRead::Values(n),
+        Walked::Refused(why) => RunRead::Refused(why),
+    }
+}
