@@ -1,23 +1,31 @@
 -- Opening in the order of the code, and the table that belongs to its answer.
 --     opened-none, opened-unknown, opened-known         the code byte decides first; a known one leaves the head and the body
 --     body-blockwise                                    the body of a code that is neither 0 nor 1
+--     under-tabled, opened-within, under-strict, under-refused, under-unknown, under-none, under-one      opening under a sheet
 --     Tabled, opened-tabled                             the blocks of the rows that an answer has in the table were checked, fit the room, and are the rule's numbers
 -- Assumes nothing.
 use Prim.Native.Nat.{ℕ, zero, suc, _/_, _≤_, _<_}
-use mathlib.Core.Path.{_≡_, refl}
+use mathlib.Core.Path.{_≡_, refl, sym, ap, _∙_, subst}
 use mathlib.Core.List.{List, [], _∷_}
 use native.Mathlib.Omega.{arith}
 use lib.ListN.{length, getD}
 use borrow.Author.Tests.{le-leb, lt-leb}
+use Rattle.format.specs.declared.Column.{Column}
 use Rattle.format.specs.declared.Fields.{Fields}
 use Rattle.format.specs.declared.Head.{Head}
+use Rattle.format.specs.declared.Spelling.{Spelling}
 use Rattle.format.specs.declared.Spelling.the-variants.{Shortest}
-use Rattle.format.specs.Outcome.{Outcome, Outcome.value, Outcome.refusal, _>>=_, stored}
+use Rattle.format.specs.Outcome.{Outcome, Outcome.value, Outcome.refusal, _>>=_, _>>_, stored}
 use Rattle.format.specs.Stats.{readHead}
 use Rattle.format.specs.Opening.{Loaded, Table, readBlocks, openBlockwise, openBody, opened, columnIn, tableIn}
+use Rattle.format.specs.Sheets.{strict, openedUnder}
+use Rattle.format.proofs.Outcomes.{not-value, value-same, by-step}
+use Rattle.format.proofs.Laid.{opened-laid}
+use Rattle.format.proofs.Sheets.{under-two}
 use Rattle.format.proofs.Openings.{OpensBitpacked, OpensLinear, OpensBlockwise, by-opening}
 use Rattle.blockwise_linear.specs.Reader.{firstCursor, blocksFrom, numbersIn, Fillable}
 use Rattle.u64_based.specs.Opening.{tabled}
+use Rattle.u64_based.specs.Sheets.{Within}
 
 -- ---- the code byte
 
@@ -71,3 +79,64 @@ opened-tabled s room = go (opened s room) refl
         })
         o e
     go (refusal n also) e = record { fillable = λ long fit. none-fillable s long; same = none-same s }
+
+-- ---- under a sheet
+
+-- the same of what a sheet accepts
+pub under-tabled : (sheet : ℕ) (s : List ℕ) (room : ℕ) → Tabled s room (openedUnder sheet s room)
+unfolding openedUnder
+under-tabled sheet s room = go (openedUnder sheet s room) refl
+  where
+    accepted : (sheet : ℕ) (o : Loaded) → openedUnder sheet s room ≡ value o → opened s room ≡ value o
+    accepted zero o e = absurd (not-value e)
+    accepted (suc zero) o e = e
+    accepted (suc (suc zero)) o e = under-two s room o e
+    accepted (suc (suc (suc sheet))) o e = absurd (not-value e)
+
+    go : (o : Outcome Loaded) → openedUnder sheet s room ≡ o → Tabled s room o
+    go (value o) e = subst (λ (x : Outcome Loaded). Tabled s room x) (accepted sheet o e) (opened-tabled s room)
+    go (refusal n also) e = record { fillable = λ long fit. none-fillable s long; same = none-same s }
+
+-- an opened column's area lies behind its code byte and ends within the bytes
+pub opened-within : (s : List ℕ) (room : ℕ) (c : Column) (p : Spelling) → columnIn (opened s room) ≡ value (c, p) → Within c s
+opened-within s room c p e =
+    by-step (opened s room) (λ (o : Loaded). value (o .column, o .spelling)) e λ o is same.
+    let laid = opened-laid s room o is in
+    subst (λ (x : Column). Within x s) (ap (λ (a : Column × Spelling). a .0) (value-same same)) (record { behind = omega (arith, laid .start); area = laid .area })
+
+-- sheet 2, from the column and the spelling that opening found, or its refusal
+pub under-strict : (s : List ℕ) (room : ℕ) (c : Column) (p : Spelling) → columnIn (opened s room) ≡ value (c, p)
+    → columnIn (openedUnder 2 s room) ≡ (strict s c p >> value (c, p))
+unfolding openedUnder
+under-strict s room c p e =
+    by-step (opened s room) (λ (o : Loaded). value (o .column, o .spelling)) e λ o is same.
+    rw is
+    (behind o (strict s (o .column) (o .spelling))
+    ∙ ap (λ (a : Column × Spelling). strict s (a .0) (a .1) >> value (a .0, a .1)) (value-same same))
+  where
+    behind : (o : Loaded) (u : Outcome (Unit {0})) → columnIn (u >> value o) ≡ (u >> value (o .column, o .spelling))
+    behind o (value t) = refl
+    behind o (refusal n also) = refl
+
+pub under-refused : (s : List ℕ) (room n : ℕ) (also : List ℕ) → columnIn (opened s room) ≡ refusal n also → columnIn (openedUnder 2 s room) ≡ refusal n also
+unfolding openedUnder
+under-refused s room n also e = go (opened s room) e
+  where
+    go : (o : Outcome Loaded) → columnIn o ≡ refusal n also → columnIn (o >>= (λ (l : Loaded). strict s (l .column) (l .spelling) >> value l)) ≡ refusal n also
+    go (value l) f = absurd (not-value (sym f))
+    go (refusal m more) f = f
+
+pub under-unknown : (sheet : ℕ) (s : List ℕ) (room : ℕ) → 2 < sheet → openedUnder sheet s room ≡ refusal 18 []
+unfolding openedUnder
+under-unknown zero s room h = refl
+under-unknown (suc zero) s room h = absurd (omega arith)
+under-unknown (suc (suc zero)) s room h = absurd (omega arith)
+under-unknown (suc (suc (suc sheet))) s room h = refl
+
+pub under-none : (s : List ℕ) (room : ℕ) → openedUnder 0 s room ≡ refusal 18 []
+unfolding openedUnder
+under-none s room = refl
+
+pub under-one : (s : List ℕ) (room : ℕ) → openedUnder 1 s room ≡ opened s room
+unfolding openedUnder
+under-one s room = refl
