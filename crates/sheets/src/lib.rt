@@ -133,7 +133,14 @@ pub fn strict(column: Column, spelling: Spelling, bytes: &[u8]) -> Opened
             let bits = bitpacker::compute_num_bits(column.count);
             judged(column, spelling, bytes, bits, bytes.len(), Fault::Nowhere)
         }
-        Codec::Linear(_, bits) => judged(column, spelling, bytes, bits, bytes.len(), Fault::Nowhere),
+        Codec::Linear(_, bits) => judged(
+            column,
+            spelling,
+            bytes,
+            bits,
+            bytes.len(),
+            Fault::Nowhere,
+        ),
         Codec::Blockwise => match blockwise_linear::reader::footer_last(bytes, column.rows) {
             LastRead::Last(l) => {
                 let later = between(l.at, l.end);

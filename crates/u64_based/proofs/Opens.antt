@@ -1,8 +1,10 @@
 -- Opening in the order of the code, and the table that belongs to its answer.
 --     opened-none, opened-unknown, opened-known         the code byte decides first; a known one leaves the head and the body
 --     body-blockwise                                    the body of a code that is neither 0 nor 1
---     under-tabled, opened-within, under-strict, under-refused, under-unknown, under-none, under-one      opening under a sheet
 --     Tabled, opened-tabled                             the blocks of the rows that an answer has in the table were checked, fit the room, and are the rule's numbers
+--     under-tabled                                      the same under any sheet
+--     opened-within, under-none, under-unknown, under-one, is-two, under-refused, under-strict
+--                                                       opening under a sheet, in the order of the code
 -- Assumes nothing.
 use Prim.Native.Nat.{ℕ, zero, suc, _/_, _≤_, _<_}
 use mathlib.Core.Path.{_≡_, refl, sym, ap, _∙_, subst}
@@ -24,8 +26,8 @@ use Rattle.format.proofs.Laid.{opened-laid}
 use Rattle.format.proofs.Sheets.{under-two}
 use Rattle.format.proofs.Openings.{OpensBitpacked, OpensLinear, OpensBlockwise, by-opening}
 use Rattle.blockwise_linear.specs.Reader.{firstCursor, blocksFrom, numbersIn, Fillable}
+use Rattle.sheets.specs.Faults.{Within, strictAs}
 use Rattle.u64_based.specs.Opening.{tabled}
-use Rattle.u64_based.specs.Sheets.{Within}
 
 -- ---- the code byte
 
@@ -104,39 +106,51 @@ opened-within s room c p e =
     let laid = opened-laid s room o is in
     subst (λ (x : Column). Within x s) (ap (λ (a : Column × Spelling). a .0) (value-same same)) (record { behind = omega (arith, laid .start); area = laid .area })
 
--- sheet 2, from the column and the spelling that opening found, or its refusal
-pub under-strict : (s : List ℕ) (room : ℕ) (c : Column) (p : Spelling) → columnIn (opened s room) ≡ value (c, p)
-    → columnIn (openedUnder 2 s room) ≡ (strict s c p >> value (c, p))
+-- no sheet but 1 and 2
+pub under-none : (sheet : ℕ) (s : List ℕ) (room : ℕ) → sheet ≡ 0 → refusal 18 [] ≡ columnIn (openedUnder sheet s room)
 unfolding openedUnder
-under-strict s room c p e =
-    by-step (opened s room) (λ (o : Loaded). value (o .column, o .spelling)) e λ o is same.
-    rw is
-    (behind o (strict s (o .column) (o .spelling))
-    ∙ ap (λ (a : Column × Spelling). strict s (a .0) (a .1) >> value (a .0, a .1)) (value-same same))
-  where
-    behind : (o : Loaded) (u : Outcome (Unit {0})) → columnIn (u >> value o) ≡ (u >> value (o .column, o .spelling))
-    behind o (value t) = refl
-    behind o (refusal n also) = refl
+under-none sheet s room e = rw e
 
-pub under-refused : (s : List ℕ) (room n : ℕ) (also : List ℕ) → columnIn (opened s room) ≡ refusal n also → columnIn (openedUnder 2 s room) ≡ refusal n also
-unfolding openedUnder
-under-refused s room n also e = go (opened s room) e
-  where
-    go : (o : Outcome Loaded) → columnIn o ≡ refusal n also → columnIn (o >>= (λ (l : Loaded). strict s (l .column) (l .spelling) >> value l)) ≡ refusal n also
-    go (value l) f = absurd (not-value (sym f))
-    go (refusal m more) f = f
-
-pub under-unknown : (sheet : ℕ) (s : List ℕ) (room : ℕ) → 2 < sheet → openedUnder sheet s room ≡ refusal 18 []
+pub under-unknown : (sheet : ℕ) (s : List ℕ) (room : ℕ) → 2 < sheet → refusal 18 [] ≡ columnIn (openedUnder sheet s room)
 unfolding openedUnder
 under-unknown zero s room h = refl
 under-unknown (suc zero) s room h = absurd (omega arith)
 under-unknown (suc (suc zero)) s room h = absurd (omega arith)
 under-unknown (suc (suc (suc sheet))) s room h = refl
 
-pub under-none : (s : List ℕ) (room : ℕ) → openedUnder 0 s room ≡ refusal 18 []
+-- sheet 1
+pub under-one : (sheet : ℕ) (s : List ℕ) (room : ℕ) {a : Outcome (Column × Spelling)} → sheet ≡ 1 → a ≡ columnIn (opened s room) → a ≡ columnIn (openedUnder sheet s room)
 unfolding openedUnder
-under-none s room = refl
+under-one sheet s room e is = is ∙ rw e
 
-pub under-one : (s : List ℕ) (room : ℕ) → openedUnder 1 s room ≡ opened s room
+-- the sheet that is left
+pub is-two : (sheet : ℕ) → (sheet ≡ 0 → ⊥) → sheet ≤ 2 → (sheet ≡ 1 → ⊥) → sheet ≡ 2
+is-two zero more h other = absurd (more refl)
+is-two (suc zero) more h other = absurd (other refl)
+is-two (suc (suc zero)) more h other = refl
+is-two (suc (suc (suc sheet))) more h other = absurd (omega arith)
+
+-- sheet 2, from opening's refusal, or from the column and the spelling that it found
+pub under-refused : (sheet : ℕ) (s : List ℕ) (room : ℕ) {n : ℕ} {also : List ℕ} {a : Outcome (Column × Spelling)} → sheet ≡ 2 → a ≡ columnIn (opened s room) → a ≡ refusal n also
+    → a ≡ columnIn (openedUnder sheet s room)
 unfolding openedUnder
-under-one s room = refl
+under-refused sheet s room {n} {also} two is e = e ∙ rw two (go (opened s room) (sym is ∙ e))
+  where
+    go : (o : Outcome Loaded) → columnIn o ≡ refusal n also → refusal n also ≡ columnIn (o >>= (λ (l : Loaded). strict s (l .column) (l .spelling) >> value l))
+    go (value l) f = absurd (not-value (sym f))
+    go (refusal m more) f = sym f
+
+pub under-strict : (sheet : ℕ) (s : List ℕ) (room : ℕ) (c : Column) (p : Spelling) {a : Outcome (Column × Spelling)} → sheet ≡ 2 → columnIn (opened s room) ≡ value (c, p) → a ≡ strictAs s c p
+    → a ≡ columnIn (openedUnder sheet s room)
+unfolding openedUnder
+under-strict sheet s room c p two e is =
+    is
+    ∙ rw two
+    (by-step (opened s room) (λ (o : Loaded). value (o .column, o .spelling)) e λ o found same.
+    rw found
+    (ap (λ (x : Column × Spelling). strictAs s (x .0) (x .1)) (sym (value-same same))
+    ∙ sym (behind o (strict s (o .column) (o .spelling)))))
+  where
+    behind : (o : Loaded) (u : Outcome (Unit {0})) → columnIn (u >> value o) ≡ (u >> value (o .column, o .spelling))
+    behind o (value t) = refl
+    behind o (refusal n also) = refl
