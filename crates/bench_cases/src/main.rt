@@ -79,6 +79,7 @@ fn record(file: &[u8], at: usize, end: usize) -> Outcome {
         1 => lists::list(file, at, end),
         2 => columns::open(file, at, end),
         3 => columns::made(file, at, end),
+        4 => columns::under(file, at, end),
         _ => nothing_asked(false),
     }
 }
@@ -146,7 +147,8 @@ fn main() {
     let opening = replay_file(b"cut.cases")
         .plus(replay_file(b"changed.cases"))
         .plus(replay_file(b"fields.cases"))
-        .plus(replay_file(b"bounds.cases"));
+        .plus(replay_file(b"bounds.cases"))
+        .plus(replay_file(b"sheets.cases"));
     let reading = replay_file(b"made.cases").plus(replay_file(b"lookup.cases"));
     let total = writing.plus(opening).plus(reading);
     put(b"all: ");
