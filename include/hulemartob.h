@@ -48,6 +48,8 @@
  *    13      column, table and bytes do not belong together                                      0
  *    14      a row's value lies outside minimum to minimum + gcd * count                         the row
  *    15      the list for found rows is too short                                                the rows found
+ *    17      a byte offends acceptance sheet 2                                                   the first one's offset
+ *    18      the sheet is neither 1 nor 2                                                        0
  */
 #ifndef HULEMARTOB_H
 #define HULEMARTOB_H
@@ -77,6 +79,13 @@ size_t hulemartob_serialize(const uint64_t *values, size_t values_len, const uin
  * UINT64_MAX where all are spelled as short as can be, and on refusal. */
 uint64_t hulemartob_open(const uint8_t *bytes, size_t bytes_len, uint64_t *table, size_t table_len, uint64_t column[10],
                          uint64_t refusal[2]);
+
+/* Opens the column that `bytes` hold under an acceptance sheet. Sheet 1 is hulemartob_open. Sheet 2 asks besides that every number is spelled as
+ * short as can be, that every byte belongs to a part of the column, and that the bits which fill up the packed area's last byte are 0; what
+ * hulemartob_serialize writes passes both. Refused 18 before everything, then 5 to 11, then 17 under sheet 2 with the lowest offset that offends, for
+ * a spelling its first byte: the table is then as it was. Returns what hulemartob_open does. */
+uint64_t hulemartob_open_under(uint32_t sheet, const uint8_t *bytes, size_t bytes_len, uint64_t *table, size_t table_len, uint64_t column[10],
+                               uint64_t refusal[2]);
 
 /* Reads a row of an opened column, with the table and the bytes of its opening. Returns the value, 0 on refusal. Refused 12 to 14. */
 uint64_t hulemartob_row(const uint64_t column[10], const uint64_t *table, size_t table_len, const uint8_t *bytes, size_t bytes_len,

@@ -325,6 +325,36 @@ def first_longer(s):
     return 0
 
 
+# ---- acceptance sheets
+
+
+def first_stray(s, column):
+    """The first byte of an opened column that belongs to none of its parts, the length of the bytes where there is none."""
+    parts = [range(column.start + column.size)]
+    if column.codec == BLOCKWISE:
+        end = len(s) - 4
+        at = footer = end - int.from_bytes(s[end:], "little")
+        for _ in range((column.rows + BLOCK - 1) // BLOCK):
+            at = read_fields(s[:end], at)[3]
+        parts += [range(footer, at), range(end, len(s))]
+    return next((at for at in range(len(s)) if not any(at in part for part in parts)), len(s))
+
+
+def open_under(sheet, s, room):
+    """Opening under a sheet; sheet 2 refuses the first byte of a longer spelling, of no part, or with filling bits that are not 0."""
+    demand(sheet in (1, 2), 18)
+    column, table = open_column(s, room)
+    if sheet == 2:
+        offsets = {first_longer(s) or len(s), first_stray(s, column)}
+        bits = (width(column.count), column.width, table[-2] if table else 0)[column.codec]
+        used = bits * ((column.rows - 1) % BLOCK + 1) % 8
+        last = column.start + column.size - 1
+        if column.rows and used and s[last] >> used:
+            offsets.add(last)
+        demand(min(offsets) == len(s), 17, min(offsets))
+    return column, table
+
+
 # ---- reading and looking up
 
 

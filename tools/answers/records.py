@@ -2,7 +2,7 @@
 
 from model import WORD, Column
 
-LIST, OPEN, MADE = 1, 2, 3
+LIST, OPEN, MADE, UNDER = 1, 2, 3, 4
 MODEL, ORACLE = 0, 1
 PREFIX = 400  # longer columns are told by their first bytes and the checksum
 FIRST = 32
@@ -66,7 +66,7 @@ def list_record(case):
 
 
 def column_record(case):
-    numbers = [case["room"], case["number"], case["also"], *case["numbers"]]
+    numbers = [case["room"] + 2**32 * case.get("sheet", 0), case["number"], case["also"], *case["numbers"]]
     numbers += [len(case["table"]), len(case["bytes"]), len(case["rows"]), len(case["lookups"])]
     body = words(numbers + case["table"]) + padded(case["bytes"])
     body += words([n for row in case["rows"] for n in row])
@@ -120,8 +120,9 @@ def read_lookup(walk):
 
 
 def read_column(walk):
-    room, number, also = walk.words(3)
-    case = {"room": room, "number": number, "also": also, "numbers": walk.words(len(Column.FIELDS))}
+    lent, number, also = walk.words(3)
+    sheet, room = divmod(lent, 2**32)
+    case = {"sheet": sheet, "room": room, "number": number, "also": also, "numbers": walk.words(len(Column.FIELDS))}
     table, size, rows, lookups = walk.words(4)
     case["table"] = walk.words(table)
     case["bytes"] = walk.bytes(size)
@@ -135,7 +136,7 @@ def read_file(s):
     while at < len(s):
         kind, source, length = s[at], s[at + 1], int.from_bytes(s[at + 4 : at + 8], "little")
         values = s[at + 2]
-        assert kind in (LIST, OPEN, MADE) and source in (MODEL, ORACLE) and values <= 4 * (kind == LIST) and s[at + 3] == 0, "a record's first word"
+        assert kind in (LIST, OPEN, MADE, UNDER) and source in (MODEL, ORACLE) and values <= 4 * (kind == LIST) and s[at + 3] == 0, "a record's first word"
         walk = Walk(s, at + 8, at + length)
         case = read_list(walk) if kind == LIST else read_column(walk)
         assert walk.at == walk.end, "a record has nothing left over"

@@ -1,4 +1,4 @@
-// The records OPEN and MADE: a column that is opened or put together, and then asked. Each function is told the record's place and its end.
+// The records OPEN, UNDER and MADE: a column that is opened or put together, and then asked. Each function is told the record's place and its end.
 use crate::answers::Outcome;
 use crate::answers::nothing_asked;
 use crate::answers::of_opening;
@@ -134,10 +134,17 @@ fn nothing_stored(file: &[u8], at: usize) -> bool {
     numbers_stored(&none, 11, file, after(at, 4)) && numbers_stored(&none, 2, file, after(at, 16))
 }
 
-// Opens the bytes into a table of marks, and asks the column.
-fn opened_alike(bytes: &[u8], table: &mut [u64], file: &[u8], at: usize, end: usize) -> Outcome {
+// Opens the bytes under a sheet into a table of marks, and asks the column.
+fn opened_alike(
+    sheet: u32,
+    bytes: &[u8],
+    table: &mut [u64],
+    file: &[u8],
+    at: usize,
+    end: usize,
+) -> Outcome {
     let from = asked_place(file, at);
-    match u64_based::open(bytes, table) {
+    match u64_based::open_under(sheet, bytes, table) {
         Opened::Column(column, spelling) => {
             if !of_opening(spelling).is_stored(file, after(at, 2)) {
                 return nothing_asked(false);
@@ -169,14 +176,32 @@ fn made_alike(bytes: &[u8], table: &mut [u64], file: &[u8], at: usize, end: usiz
     ask(column, table, bytes, file, at, asked_place(file, at), end)
 }
 
-// A record OPEN.
-pub(crate) fn open(file: &[u8], at: usize, end: usize) -> Outcome {
-    let room = count_at(file, after(at, 1));
+// A column that is opened under a sheet, with a table of so many numbers.
+fn opened_in(sheet: u32, room: usize, file: &[u8], at: usize, end: usize) -> Outcome {
     if TABLE < room {
         return nothing_asked(false);
     }
     let mut table = [NUMBER; TABLE];
-    opened_alike(column_bytes(file, at), &mut table[..room], file, at, end)
+    opened_alike(
+        sheet,
+        column_bytes(file, at),
+        &mut table[..room],
+        file,
+        at,
+        end,
+    )
+}
+
+// A record OPEN.
+pub(crate) fn open(file: &[u8], at: usize, end: usize) -> Outcome {
+    opened_in(1, count_at(file, after(at, 1)), file, at, end)
+}
+
+// A record UNDER: the upper half of the word that OPEN has the table's length in names the sheet.
+pub(crate) fn under(file: &[u8], at: usize, end: usize) -> Outcome {
+    let sheet = (word_at(file, after(at, 1)) >> 32) as u32;
+    let room = half_at(file, after(at, 1)) as usize;
+    opened_in(sheet, room, file, at, end)
 }
 
 // A record MADE. Its table is as long as it is filled.

@@ -80,6 +80,7 @@ fn record(file: &[u8], at: usize, end: usize) -> Outcome {
         1 => lists::list(file, at, end),
         2 => columns::open(file, at, end),
         3 => columns::made(file, at, end),
+        4 => columns::under(file, at, end),
         _ => nothing_asked(false),
     }
 }
@@ -147,7 +148,8 @@ fn main() {
     let opening = replay_file(b"cut.cases")
         .plus(replay_file(b"changed.cases"))
         .plus(replay_file(b"fields.cases"))
-        .plus(replay_file(b"bounds.cases"));
+        .plus(replay_file(b"bounds.cases"))
+        .plus(replay_file(b"sheets.cases"));
     let reading = replay_file(b"made.cases").plus(replay_file(b"lookup.cases"));
     let typed = replay_file(b"typed.cases");
     let total = writing.plus(opening).plus(reading).plus(typed);

@@ -8,6 +8,7 @@ ghost use Prim.Native.Nat.{_/_, _^_, _<_};
 ghost use lib.ListN.{length, getD};
 ghost use Rattle.format.specs.Listing.{codeOf};
 ghost use Rattle.format.specs.Opening.{opened};
+ghost use Rattle.format.specs.Sheets.{openedUnder};
 ghost use Rattle.format.specs.Refusals.{paper};
 ghost use Rattle.format.specs.Stats.{stated};
 ghost use Rattle.format.specs.Writing.{written};
@@ -191,18 +192,18 @@ pub extern "C" fn hulemartob_serialize(
     }
 }
 
-// Opens a column: its ten numbers, and its blocks in the table. Returns the offset of the first longer spelling, 2^64 - 1 where
+// Opens a column under a sheet: its ten numbers, and its blocks in the table. Returns the offset of the first longer spelling, 2^64 - 1 where
 // there is none and on refusal.
-#[no_mangle]
-pub extern "C" fn hulemartob_open(
+fn open_as(
+    sheet: u32,
     bytes: &[u8],
     table: &mut [u64],
     column: &mut [u64; 10],
     refusal: &mut [u64; 2],
 ) -> u64
-    ensures { λ r. ⌜ Opens (opened (now (bytes .entry)) (length (now (table .entry)) / 4)) r (now (refusal .exit)) (now (column .entry)) (now (column .exit)) (now (table .entry)) (now (table .exit)) ⌝ }
+    ensures { λ r. ⌜ Opens (openedUnder sheet (now (bytes .entry)) (length (now (table .entry)) / 4)) r (now (refusal .exit)) (now (column .entry)) (now (column .exit)) (now (table .entry)) (now (table .exit)) ⌝ }
 {
-    match u64_based::open(bytes, table) {
+    match u64_based::open_under(sheet, bytes, table) {
         Opened::Column(opened, spelling) => {
             *column = column_numbers(opened);
             *refusal = ACCEPTED;
@@ -213,6 +214,33 @@ pub extern "C" fn hulemartob_open(
             u64::MAX
         }
     }
+}
+
+// Opens a column under sheet 1.
+#[no_mangle]
+pub extern "C" fn hulemartob_open(
+    bytes: &[u8],
+    table: &mut [u64],
+    column: &mut [u64; 10],
+    refusal: &mut [u64; 2],
+) -> u64
+    ensures { λ r. ⌜ Opens (opened (now (bytes .entry)) (length (now (table .entry)) / 4)) r (now (refusal .exit)) (now (column .entry)) (now (column .exit)) (now (table .entry)) (now (table .exit)) ⌝ }
+{
+    open_as(1, bytes, table, column, refusal)
+}
+
+// Opens a column under the sheet that is named.
+#[no_mangle]
+pub extern "C" fn hulemartob_open_under(
+    sheet: u32,
+    bytes: &[u8],
+    table: &mut [u64],
+    column: &mut [u64; 10],
+    refusal: &mut [u64; 2],
+) -> u64
+    ensures { λ r. ⌜ Opens (openedUnder sheet (now (bytes .entry)) (length (now (table .entry)) / 4)) r (now (refusal .exit)) (now (column .entry)) (now (column .exit)) (now (table .entry)) (now (table .exit)) ⌝ }
+{
+    open_as(sheet, bytes, table, column, refusal)
 }
 
 // The value of a row, 0 on refusal.

@@ -45,6 +45,7 @@ pub mod Linear
 pub mod WrittenBlocks
 pub mod BlockBytes
 pub mod LastBlocks
+pub mod Parts
 pub mod Blockwise
 pub mod WrittenBytes
 -- the demands, and lengths

@@ -1,6 +1,7 @@
 -- What the sheets accept.
 --     under-two                          what sheet 2 accepts, sheet 1 accepts, with the same answer and table
 --     refused-two                        what sheet 1 accepts and sheet 2 does not is refused 17
+--     by-unit                            a step that gives nothing
 --     between-none, overfull-none, overfull-packed, clean-column
 --                                        what a column without offending bytes has
 -- Assumes nothing.
@@ -34,7 +35,7 @@ use Rattle.format.proofs.Packing.{length-packed}
 -- ---- the two sheets
 
 -- a step that gives nothing, before a value
-by-unit : {B : Type 0} {b : B} {C : Type 0} (o : Outcome (Unit {0})) (k : Outcome B) → (o >> k) ≡ value b → (o ≡ value tt → k ≡ value b → C) → C
+pub by-unit : {B : Type 0} {b : B} {C : Type 0} (o : Outcome (Unit {0})) (k : Outcome B) → (o >> k) ≡ value b → (o ≡ value tt → k ≡ value b → C) → C
 by-unit (value tt) k e next = next refl e
 by-unit (refusal n also) k e next = absurd (not-value e)
 

@@ -2,6 +2,7 @@
 --     kind-back          a value that was stored reads as itself
 --     returns-as         demand 2: what was written of a list of any kind gives back the list
 --     shortest-as        .. and opens with the shortest spellings
+--     passes-as          .. and under both sheets
 --     tell-signed, tell-float, tell-flag, tell-typed
 --                        demand 3: what the answers read as differs where the stored numbers do
 -- Assumes nothing.
@@ -22,6 +23,7 @@ use Rattle.format.specs.Word.{AllBelow}
 use Rattle.format.specs.Bodies.{blockCount}
 use Rattle.format.specs.Writing.{written}
 use Rattle.format.specs.Opening.{Loaded, opened}
+use Rattle.format.specs.Sheets.{openedUnder}
 use Rattle.format.specs.Lookup.{rowsPassing, lookedUp}
 use Rattle.format.specs.Typed.{storedIn, storedAs, readAs, readingOf, meant, lies, between, signedBits, storedSigned, signedOf, flagOf, storedFloat, floatOf}
 use Rattle.format.specs.Demands.{readsAs, filledBy, answered, GivesBack, GivesBackAs, ReturnsAs, Differ, DifferAs, BothTrue, TellTyped}
@@ -30,7 +32,7 @@ use Rattle.format.proofs.Lookups.{foundIn, looked-agree, looked-up}
 use Rattle.format.proofs.Mappings.{signed-back, stored-back, bits-in, flag-back, float-back, bits-back}
 use Rattle.format.proofs.StoredLists.{stored-length, stored-at, stored-words}
 use Rattle.format.proofs.TypedLookups.{row-words}
-use Rattle.format.proofs.Demand2.{demand2, written-shortest}
+use Rattle.format.proofs.Demand2.{demand2, written-shortest, written-passes}
 use Rattle.format.proofs.Demand3.{demand3}
 
 -- ---- demand 2
@@ -86,6 +88,12 @@ pub shortest-as : (kind : Kind) (xs cs bytes table : List ℕ) (room : ℕ) → 
     → 4 * blockCount (length xs) ≤ length table → (o : Loaded) → opened bytes (length table / 4) ≡ value o → o .spelling ≡ Shortest
 shortest-as kind xs cs bytes table room each e enough =
     written-shortest (storedAs kind xs) cs bytes table room (stored-words kind xs each) e (rw (stored-length kind xs) enough)
+
+pub passes-as : (kind : Kind) (xs cs bytes table : List ℕ) (room : ℕ) → AllBelow (2 ^ 64) xs → written (storedAs kind xs) cs room ≡ value bytes
+    → 4 * blockCount (length xs) ≤ length table → (o : Loaded) → opened bytes (length table / 4) ≡ value o
+    → (openedUnder 1 bytes (length table / 4) ≡ value o) × (openedUnder 2 bytes (length table / 4) ≡ value o)
+passes-as kind xs cs bytes table room each e enough =
+    written-passes (storedAs kind xs) cs bytes table room (stored-words kind xs each) e (rw (stored-length kind xs) enough)
 
 -- ---- demand 3
 

@@ -4,7 +4,7 @@
 use Prim.Native.Nat.{ℕ, zero, suc, _+_, _-_, _*_, _/_, _%_, _^_, min}
 use mathlib.Core.Bool.{_&&_}
 use mathlib.Core.Option.{Option, none, some}
-use mathlib.Core.List.{List, [], _∷_}
+use mathlib.Core.List.{List, [], _∷_, _++_}
 use lib.Dec.{ltb}
 use lib.ListN.{length, take, drop, getD}
 use Rattle.format.specs.declared.Codec.{Codec}
@@ -14,6 +14,7 @@ use Rattle.format.specs.declared.Fields.{Fields}
 use Rattle.format.specs.declared.Spelling.{Spelling}
 use Rattle.format.specs.declared.Spelling.the-variants.{Shortest, Longer}
 use Rattle.format.specs.Outcome.{Outcome, Outcome.value, Outcome.refusal, _>>=_, _>>_, pick}
+use Rattle.format.specs.Varint.{spell}
 use Rattle.format.specs.Packing.{width, bytesNum}
 use Rattle.format.specs.Bodies.{blockCount}
 use Rattle.format.specs.Opening.{Loaded, readFields, opened}
@@ -85,3 +86,30 @@ openedUnder zero s room = refusal 18 []
 openedUnder (suc zero) s room = opened s room
 openedUnder (suc (suc zero)) s room = opened s room >>= (λ (o : Loaded). strict s (o .column) (o .spelling) >> value o)
 openedUnder (suc (suc (suc sheet))) s room = refusal 18 []
+
+-- ---- the parts of a column
+
+-- the code byte of a codec
+abbrev pub codeOf : Codec → ℕ
+codeOf Bitpacked = 0
+codeOf (Linear l w) = 1
+codeOf Blockwise = 2
+
+-- the fields of k blocks in a footer, three a block, from the numbers of the table
+unfoldable pub entriesOf : (k : ℕ) (table : List ℕ) → List (List ℕ)
+entriesOf zero table = []
+entriesOf (suc k) table = spell (getD table 0 0) ∷ spell (getD table 1 0) ∷ (getD table 2 0 ∷ []) ∷ entriesOf k (drop 4 table)
+
+-- the parts behind the head: Linear's line and width before the area; Blockwise's footer behind it, with its length in four bytes
+abbrev pub bodyParts : Codec → (blocks : ℕ) (table area four : List ℕ) → List (List ℕ)
+bodyParts Bitpacked blocks table area four = area ∷ []
+bodyParts (Linear l w) blocks table area four = spell (l .slope) ∷ spell (l .intercept) ∷ (w ∷ []) ∷ area ∷ []
+bodyParts Blockwise blocks table area four = area ∷ (entriesOf blocks table ++ (four ∷ []))
+
+-- all parts of an opened column in their order, each number in its shortest spelling
+abbrev pub partsOf : (s : List ℕ) → Loaded → List (List ℕ)
+partsOf s o =
+    let col = o .column in
+    (codeOf (col .codec) ∷ [])
+    ∷ spell (col .minimum) ∷ spell (col .gcd) ∷ spell (col .count) ∷ spell (col .rows)
+    ∷ bodyParts (col .codec) (blockCount (col .rows)) (o .table) (take (col .size) (drop (col .start) s)) (drop (length s - 4) s)

@@ -3,9 +3,10 @@
 --     reads, written-of, front-of        what a call left is what was found
 --     own-rows, own-fits                 an opened column answers its own rows with a value or 14: never 12, never 13; it fits together with its own bytes and table
 --     Returned, calls-return             demand 2: what was written opens, and `row` and `lookup` give the values back
+--     by-sheet, calls-pass               .. under either sheet
 --     Told, calls-tell                   demand 3: what `row` answers depends on its row's own bits, and tells every change of them
 -- Assumes nothing.
-use Prim.Native.Nat.{ℕ, _+_, _*_, _/_, _^_, _≤_, _<_}
+use Prim.Native.Nat.{ℕ, zero, suc, _+_, _*_, _/_, _^_, _≤_, _<_}
 use mathlib.Core.Path.{_≡_, refl, sym, ap, _∙_, subst}
 use mathlib.Core.Logic.{_⊎_, inl, inr, ⊎-elim}
 use mathlib.Core.List.{List, [], _∷_}
@@ -30,6 +31,7 @@ use Rattle.format.specs.Refusals.{rowMeaning}
 use Rattle.format.specs.Bodies.{blockCount}
 use Rattle.format.specs.Writing.{written}
 use Rattle.format.specs.Opening.{Loaded, opened}
+use Rattle.format.specs.Sheets.{openedUnder}
 use Rattle.format.specs.Reading.{blockAt, fits, rowIn, rowAt}
 use Rattle.format.specs.Lookup.{lookedUp, within}
 use Rattle.format.specs.Demands.{filledBy, answered, readsAs, GivesBack, Alike, SameBits, Differ, RowsTell}
@@ -37,7 +39,7 @@ use Rattle.format.proofs.Answers.{row-injective, opened-injective}
 use Rattle.format.proofs.Outcomes.{not-value, value-same}
 use Rattle.format.proofs.Rows.{own-row}
 use Rattle.format.proofs.Writes.{written-as}
-use Rattle.format.proofs.Demand2.{demand2, written-shortest}
+use Rattle.format.proofs.Demand2.{demand2, written-shortest, written-passes}
 use Rattle.format.proofs.Demand3.{demand3}
 use Rattle.format.specs.Calls.{FoundAs, OpenedAs, SerializedAs}
 
@@ -151,6 +153,29 @@ calls-return vs cs out written-out n each wrote table after enough a opened-as =
     let front : take n written-out ≡ w .0 = front-of out written-out (w .0) n (w .2) (w .3) (written-as vs cs (w .0) (length out) (w .1) .fits) in
     subst (λ (s : List ℕ). OpenedAs (opened s (length table / 4)) a table after → Returned vs s after a) (sym front)
     (returned vs cs (w .0) table after (length out) each (w .1) enough a) opened-as
+
+-- ---- sheets
+
+-- what passes both sheets opens under each as it opens
+pub by-sheet : (sheet : ℕ) (s : List ℕ) (room : ℕ) (o : Loaded) → opened s room ≡ value o → (openedUnder 1 s room ≡ value o) × (openedUnder 2 s room ≡ value o)
+    → 0 < sheet → sheet ≤ 2 → openedUnder sheet s room ≡ opened s room
+by-sheet zero s room o is both more known = absurd (omega arith)
+by-sheet (suc zero) s room o is both more known = both .0 ∙ sym is
+by-sheet (suc (suc zero)) s room o is both more known = both .1 ∙ sym is
+by-sheet (suc (suc (suc sheet))) s room o is both more known = absurd (omega arith)
+
+-- demand 2, of the calls, under either sheet: what `serialize` wrote is accepted and gives back the list
+pub calls-pass : (vs cs out written-out : List ℕ) (n : ℕ) → AllBelow (2 ^ 64) vs → SerializedAs (written vs cs (length out)) (Length n) out written-out
+    → (table after : List ℕ) → 4 * blockCount (length vs) ≤ length table → (sheet : ℕ) → 0 < sheet → sheet ≤ 2
+    → (a : Opened) → OpenedAs (openedUnder sheet (take n written-out) (length table / 4)) a table after → Returned vs (take n written-out) after a
+calls-pass vs cs out written-out n each wrote table after enough sheet more known a opened-as =
+    let w = written-of (written vs cs (length out)) out written-out n wrote in
+    let front : take n written-out ≡ w .0 = front-of out written-out (w .0) n (w .2) (w .3) (written-as vs cs (w .0) (length out) (w .1) .fits) in
+    let g = demand2 .0 vs cs (w .0) table (length out) each (w .1) enough in
+    let both = written-passes vs cs (w .0) table (length out) each (w .1) enough (g .0) (g .1) in
+    let same : openedUnder sheet (take n written-out) (length table / 4) ≡ opened (take n written-out) (length table / 4) =
+    rw front (by-sheet sheet (w .0) (length table / 4) (g .0) (g .1) both more known) in
+    calls-return vs cs out written-out n each wrote table after enough a (subst (λ (x : Outcome Loaded). OpenedAs x a table after) same opened-as)
 
 -- ---- demand 3
 

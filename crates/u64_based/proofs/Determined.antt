@@ -1,5 +1,5 @@
 -- The contracts of the entry points determine what they answer and what every lent entry holds afterwards: two results that they allow coincide.
---     stats-determined, serialize-determined, stats-as-determined, serialize-as-determined, open-plain-determined, open-determined, row-determined, lookup-determined, run-determined
+--     stats-determined, serialize-determined, stats-as-determined, serialize-as-determined, open-plain-determined, open-determined, open-plain-under-determined, open-under-determined, row-determined, lookup-determined, run-determined
 -- Assumes nothing.
 use Prim.Native.Nat.{ℕ, _/_}
 use mathlib.Core.Path.{_≡_, sym, _∙_}
@@ -18,6 +18,7 @@ use Rattle.format.specs.Opening.{opened, columnIn}
 use Rattle.format.specs.Reading.{rowAt}
 use Rattle.format.specs.Refusals.{statedMeaning, openedMeaning, rowMeaning}
 use Rattle.format.specs.Runs.{decoded}
+use Rattle.format.specs.Sheets.{openedUnder}
 use Rattle.format.specs.Stats.{stated}
 use Rattle.format.specs.Typed.{storedAs}
 use Rattle.format.specs.Writing.{written}
@@ -50,6 +51,14 @@ open-plain-determined s room a b p q = opened-injective a b (p ∙ sym q)
 pub open-determined : (s table : List ℕ) (a b : Opened) (after after′ : List ℕ)
     → OpenedAs (opened s (length table / 4)) a table after → OpenedAs (opened s (length table / 4)) b table after′ → (a ≡ b) × (after ≡ after′)
 open-determined s table a b after after′ p q = (opened-injective a b (p .answer ∙ sym (q .answer)), p .table ∙ sym (q .table))
+
+-- the same under a sheet
+pub open-plain-under-determined : (sheet : ℕ) (s : List ℕ) (room : ℕ) (a b : Opened) → openedMeaning a ≡ columnIn (openedUnder sheet s room) → openedMeaning b ≡ columnIn (openedUnder sheet s room) → a ≡ b
+open-plain-under-determined sheet s room a b p q = opened-injective a b (p ∙ sym q)
+
+pub open-under-determined : (sheet : ℕ) (s table : List ℕ) (a b : Opened) (after after′ : List ℕ)
+    → OpenedAs (openedUnder sheet s (length table / 4)) a table after → OpenedAs (openedUnder sheet s (length table / 4)) b table after′ → (a ≡ b) × (after ≡ after′)
+open-under-determined sheet s table a b after after′ p q = (opened-injective a b (p .answer ∙ sym (q .answer)), p .table ∙ sym (q .table))
 
 -- two answers of `row`
 pub row-determined : (column : Column) (table bytes : List ℕ) (row : ℕ) (a b : RowRead)

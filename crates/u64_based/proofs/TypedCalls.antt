@@ -1,5 +1,6 @@
 -- The demands of columns of signed numbers, dates, bools and floats, of the calls' own answers: from the contracts of `serialize_as`, `open`, `row` and `lookup`.
 --     ReturnedAs, typed-return                       demand 2: what was written of a list of any kind opens, and reads and looks up as the list
+--     typed-pass                                     .. under either sheet
 --     signed-rows, date-rows, flag-rows, float-rows  .. by the answers that `signed`, `flag` and `float_bits` make of `row`'s
 --     looked-by, signed-looked, flag-looked, float-looked
 --                                                    `lookup` by the range of some values is a lookup of those, in any column
@@ -36,6 +37,7 @@ use Rattle.format.specs.Refusals.{rowMeaning, signedMeaning, flagMeaning, float
 use Rattle.format.specs.Bodies.{blockCount}
 use Rattle.format.specs.Writing.{written}
 use Rattle.format.specs.Opening.{Loaded, opened}
+use Rattle.format.specs.Sheets.{openedUnder}
 use Rattle.format.specs.Reading.{rowAt}
 use Rattle.format.specs.Lookup.{lookedUp, within}
 use Rattle.format.specs.Typed.{storedAs, readAs, Reading, readingOf, meant, lies, between, Covers, signedBits, signedOf, flagOf, floatOf, signeds, flags, floats, signedRange, flagRange, floatRange}
@@ -43,9 +45,9 @@ use Rattle.format.specs.Demands.{filledBy, answered, readsAs, GivesBackAs, Alik
 use Rattle.format.proofs.Answers.{opened-injective, signed-injective, flag-injective, float-injective}
 use Rattle.format.proofs.Writes.{written-as}
 use Rattle.format.proofs.TypedLookups.{row-words, covered-lookup, signed-covers, flag-covers, float-covers}
-use Rattle.format.proofs.TypedDemands.{returns-as, shortest-as, tell-typed}
-use Rattle.format.specs.Calls.{FoundAs, OpenedAs, SerializedAs}
-use Rattle.u64_based.proofs.Calls.{Opens, reads, written-of, front-of}
+use Rattle.format.proofs.TypedDemands.{returns-as, shortest-as, passes-as, tell-typed}
+use Rattle.format.specs.Calls.{OpenedAs, FoundAs, SerializedAs}
+use Rattle.u64_based.proofs.Calls.{Opens, reads, written-of, front-of, by-sheet}
 
 -- ---- demand 2
 
@@ -89,6 +91,20 @@ typed-return kind xs cs out written-out n each wrote table after enough a opened
     let front : take n written-out ≡ w .0 = front-of out written-out (w .0) n (w .2) (w .3) (written-as vs cs (w .0) (length out) (w .1) .fits) in
     subst (λ (s : List ℕ). OpenedAs (opened s (length table / 4)) a table after → ReturnedAs kind xs s after a) (sym front)
     (returned-as kind xs cs (w .0) table after (length out) each (w .1) enough a) opened-as
+
+-- the same under either sheet
+pub typed-pass : (kind : Kind) (xs cs out written-out : List ℕ) (n : ℕ) → AllBelow (2 ^ 64) xs → SerializedAs (written (storedAs kind xs) cs (length out)) (Length n) out written-out
+    → (table after : List ℕ) → 4 * blockCount (length xs) ≤ length table → (sheet : ℕ) → 0 < sheet → sheet ≤ 2
+    → (a : Opened) → OpenedAs (openedUnder sheet (take n written-out) (length table / 4)) a table after → ReturnedAs kind xs (take n written-out) after a
+typed-pass kind xs cs out written-out n each wrote table after enough sheet more known a opened-as =
+    let vs = storedAs kind xs in
+    let w = written-of (written vs cs (length out)) out written-out n wrote in
+    let front : take n written-out ≡ w .0 = front-of out written-out (w .0) n (w .2) (w .3) (written-as vs cs (w .0) (length out) (w .1) .fits) in
+    let g = returns-as kind xs cs (w .0) table (length out) each (w .1) enough in
+    let both = passes-as kind xs cs (w .0) table (length out) each (w .1) enough (g .0) (g .1) in
+    let same : openedUnder sheet (take n written-out) (length table / 4) ≡ opened (take n written-out) (length table / 4) =
+    rw front (by-sheet sheet (w .0) (length table / 4) (g .0) (g .1) both more known) in
+    typed-return kind xs cs out written-out n each wrote table after enough a (subst (λ (x : Outcome Loaded). OpenedAs x a table after) same opened-as)
 
 -- ---- .. by the typed answers
 

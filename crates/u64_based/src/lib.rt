@@ -9,6 +9,7 @@ ghost use Rattle.format.specs.Refusals.{statedMeaning, openedMeaning, rowMeanin
 ghost use Rattle.format.specs.Stats.{stated};
 ghost use Rattle.format.specs.Writing.{written};
 ghost use Rattle.format.specs.Opening.{columnIn, opened};
+ghost use Rattle.format.specs.Sheets.{openedUnder};
 ghost use Rattle.format.specs.Lookup.{lookedUp, within};
 ghost use Rattle.format.specs.Reading.{rowAt};
 ghost use Rattle.format.specs.Runs.{decoded};
@@ -89,15 +90,43 @@ pub fn open_plain(bytes: &[u8], room: usize) -> Opened
     opening::load(code, bytes, head, room)
 }
 
-// Opens a column, says how its numbers are spelled, and puts the blocks of a Blockwise one into the lent table, four numbers a
-// block. A refusal leaves the table as it was; so does a column without blocks.
+// Opens a column under an acceptance sheet that the caller names, for a table with room for so many blocks: sheet 1 is opening as it stands, and
+// sheet 2, once that has passed, refuses the first byte that offends it. As above, all decisions fall here.
+pub fn open_plain_under(sheet: u32, bytes: &[u8], room: usize) -> Opened
+    ensures { λ r. ⌜ openedMeaning r ≡ columnIn (openedUnder sheet (now (bytes .entry)) room) ⌝ }
+{
+    if sheet == 0 {
+        return Opened::Refused(Refusal::UnknownSheet);
+    }
+    if 2 < sheet {
+        return Opened::Refused(Refusal::UnknownSheet);
+    }
+    let answer = open_plain(bytes, room);
+    if sheet == 1 {
+        return answer;
+    }
+    let Opened::Column(column, spelling) = answer else {
+        return answer;
+    };
+    sheets::strict(column, spelling, bytes)
+}
+
+// Opens a column under an acceptance sheet, says how its numbers are spelled, and puts the blocks of a Blockwise one into the lent table, four
+// numbers a block. A refusal, 17 included, leaves the table as it was; so does a column without blocks.
+pub fn open_under(sheet: u32, bytes: &[u8], table: &mut [u64]) -> Opened
+    ensures { λ r. ⌜ OpenedAs (openedUnder sheet (now (bytes .entry)) (length (now (table .entry)) / 4)) r (now (table .entry)) (now (table .exit)) ⌝ }
+{
+    let room = table.len() / 4;
+    let answer = open_plain_under(sheet, bytes, room);
+    opening::fill(bytes, answer, table);
+    answer
+}
+
+// Opens a column under sheet 1.
 pub fn open(bytes: &[u8], table: &mut [u64]) -> Opened
     ensures { λ r. ⌜ OpenedAs (opened (now (bytes .entry)) (length (now (table .entry)) / 4)) r (now (table .entry)) (now (table .exit)) ⌝ }
 {
-    let room = table.len() / 4;
-    let answer = open_plain(bytes, room);
-    opening::fill(bytes, answer, table);
-    answer
+    open_under(1, bytes, table)
 }
 
 // The value of a row of an opened column, with its table and its bytes.

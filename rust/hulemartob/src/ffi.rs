@@ -23,7 +23,8 @@ unsafe extern "C" {
         refusal: *mut [u64; 2],
     ) -> usize;
 
-    fn hulemartob_open(
+    fn hulemartob_open_under(
+        sheet: u32,
         bytes: *const u8,
         bytes_len: usize,
         table: *mut u64,
@@ -119,13 +120,14 @@ pub(crate) fn serialize(values: &[u64], codecs: &[u8], out: &mut [u8]) -> Result
     answer(refusal, length)
 }
 
-/// The ten numbers of an opened column, and the offset of its first number that is spelled in more bytes than it need be; `table` has
-/// its blocks.
-pub(crate) fn open(bytes: &[u8], table: &mut [u64]) -> Result<([u64; 10], Option<u64>), Refusal> {
+/// The ten numbers of a column opened under a sheet, and the offset of its first number that is spelled in more bytes than it need be; `table`
+/// has its blocks.
+pub(crate) fn open_under(sheet: u32, bytes: &[u8], table: &mut [u64]) -> Result<([u64; 10], Option<u64>), Refusal> {
     let (mut column, mut refusal) = ([0; 10], [0; 2]);
     // SAFETY: see the top of this file.
-    let longer =
-        unsafe { hulemartob_open(bytes.as_ptr(), bytes.len(), table.as_mut_ptr(), table.len(), &mut column, &mut refusal) };
+    let longer = unsafe {
+        hulemartob_open_under(sheet, bytes.as_ptr(), bytes.len(), table.as_mut_ptr(), table.len(), &mut column, &mut refusal)
+    };
     answer(refusal, (column, (longer != u64::MAX).then_some(longer)))
 }
 

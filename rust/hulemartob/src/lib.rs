@@ -132,13 +132,31 @@ pub struct Column<'a> {
 impl<'a> Column<'a> {
     /// Opens the column that `bytes` hold. Refused 5 to 10.
     pub fn open(bytes: &'a [u8]) -> Result<Column<'a>, Refusal> {
+        Column::open_under(1, bytes)
+    }
+
+    /// Opens the column that `bytes` hold under an acceptance sheet. Sheet 1 is [`Column::open`]; sheet 2 asks besides for the shortest spellings,
+    /// for no byte that belongs to no part, and for zeros where bits fill up the packed area's last byte. Refused 18 before everything, then 5 to
+    /// 10, then 17 with the first offending byte.
+    ///
+    /// ```
+    /// use hulemartob::{Codec, Column, Refusal, serialize};
+    ///
+    /// let mut bytes = serialize(&[10, 30, 20], &Codec::ALL)?;
+    /// assert!(Column::open_under(2, &bytes).is_ok());
+    /// bytes.push(0);
+    /// assert_eq!(Column::open_under(2, &bytes), Err(Refusal { number: 17, value: 6 }));
+    /// assert!(Column::open(&bytes).is_ok());
+    /// # Ok::<(), Refusal>(())
+    /// ```
+    pub fn open_under(sheet: u32, bytes: &'a [u8]) -> Result<Column<'a>, Refusal> {
         let mut table = Vec::new();
-        let (numbers, longer) = match ffi::open(bytes, &mut table) {
+        let (numbers, longer) = match ffi::open_under(sheet, bytes, &mut table) {
             // Zeroed memory is handed out as it is touched, and opening touches the table only once the column is known to be sound. So
             // a damaged column of a few bytes that claims 2^32 rows costs nothing here.
             Err(Refusal { number: 11, value: blocks }) => {
                 table = vec![0; 4 * blocks as usize];
-                ffi::open(bytes, &mut table)?
+                ffi::open_under(sheet, bytes, &mut table)?
             }
             answer => answer?,
         };

@@ -22,6 +22,8 @@ use std::fmt;
 /// | 13 | column, table and bytes do not belong together | |
 /// | 14 | a row's value lies outside the bounds that the column states | the row |
 /// | 15 | the list for found rows is too short | the rows found |
+/// | 17 | a byte offends acceptance sheet 2 | the first one's offset |
+/// | 18 | the sheet is neither 1 nor 2 | |
 #[derive(Clone, Copy, Debug, PartialEq, Eq, Hash)]
 pub struct Refusal {
     /// The number in the table.
@@ -49,6 +51,8 @@ impl Refusal {
             13 => "column, table and bytes do not belong together",
             14 => "value outside the column's bounds, in row",
             15 => "list too short, rows found",
+            17 => "offends sheet 2, at offset",
+            18 => "unknown sheet",
             _ => "unknown refusal",
         }
     }
@@ -57,7 +61,7 @@ impl Refusal {
 impl fmt::Display for Refusal {
     fn fmt(&self, f: &mut fmt::Formatter<'_>) -> fmt::Result {
         write!(f, "refused {}: {}", self.number, self.reason())?;
-        if matches!(self.number, 2 | 4 | 6 | 9 | 11 | 14 | 15) { write!(f, " {}", self.value) } else { Ok(()) }
+        if matches!(self.number, 2 | 4 | 6 | 9 | 11 | 14 | 15 | 17) { write!(f, " {}", self.value) } else { Ok(()) }
     }
 }
 

@@ -173,6 +173,44 @@ fn spellings_are_told() {
 }
 
 #[test]
+fn sheets_are_kept_apart() {
+    let under = |sheet, bytes: &[u8]| Column::open_under(sheet, bytes).map(|column| column.rows());
+    for sheet in [0, 3, u32::MAX] {
+        assert_eq!(under(sheet, &[]), refused(18, 0));
+        assert_eq!(under(sheet, &BITPACKED), refused(18, 0));
+    }
+    for sheet in [1, 2] {
+        assert_eq!(under(sheet, &[]), refused(5, 0));
+        assert_eq!(under(sheet, &BITPACKED), Ok(3));
+        assert_eq!(under(sheet, &BLOCKWISE), Ok(3));
+    }
+    // a byte behind the area, a filling bit, a longer spelling, the last two
+    let offending: [(&[u8], u64); 4] = [
+        (&[0x00, 0x8A, 0x8A, 0x82, 0x83, 0x18, 0x00], 6),
+        (&[0x00, 0x8A, 0x8A, 0x82, 0x83, 0x58], 5),
+        (&[0x00, 0x8A, 0x0A, 0x80, 0x82, 0x83, 0x18], 2),
+        (&[0x00, 0x8A, 0x0A, 0x80, 0x82, 0x83, 0x58], 2),
+    ];
+    // a filling bit, a byte before the footer, a longer spelling in it and a byte behind its fields; without the first; the last alone
+    let in_blocks: [(&[u8], u64); 3] = [
+        (&[0x02, 0x8A, 0x8A, 0x82, 0x83, 0x48, 0, 0, 0, 0, 0, 0x88, 0x00, 0x80, 0x02, 0, 9, 0, 0, 0], 5),
+        (&[0x02, 0x8A, 0x8A, 0x82, 0x83, 0x08, 0, 0, 0, 0, 0, 0x88, 0x00, 0x80, 0x02, 0, 9, 0, 0, 0], 6),
+        (&[0x02, 0x8A, 0x8A, 0x82, 0x83, 0x08, 0, 0, 0, 0, 0x88, 0x80, 0x02, 0, 8, 0, 0, 0], 13),
+    ];
+    for (bytes, offset) in offending.into_iter().chain(in_blocks) {
+        assert_eq!(under(1, bytes), Ok(3));
+        assert_eq!(under(2, bytes), refused(17, offset));
+    }
+    for values in lists() {
+        for codec in Codec::ALL {
+            if let Ok(bytes) = serialize(&values, &[codec]) {
+                assert_eq!(Column::open_under(2, &bytes).unwrap(), Column::open(&bytes).unwrap());
+            }
+        }
+    }
+}
+
+#[test]
 fn parts_that_do_not_fit() {
     let column = Column::open(&BITPACKED).unwrap();
     assert_eq!(column.row(3), refused(12, 0));
@@ -226,4 +264,5 @@ fn damaged_columns_answer() {
 fn refusals_in_words() {
     assert_eq!(Refusal { number: 7, value: 0 }.to_string(), "refused 7: gcd 0");
     assert_eq!(Refusal { number: 14, value: 1 }.to_string(), "refused 14: value outside the column's bounds, in row 1");
+    assert_eq!(Refusal { number: 17, value: 6 }.to_string(), "refused 17: offends sheet 2, at offset 6");
 }

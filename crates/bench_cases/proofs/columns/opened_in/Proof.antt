@@ -1,17 +1,11 @@
--- `open` is safe: the table that it lends is no longer than the one that it has.
+-- `opened_in` is safe: the table that it lends is no longer than the one that it has.
 -- Assumes nothing.
 use mathlib.Core.Path.{sym}
 use lib.Seq.{length-take-le}
 use native.Mathlib.Omega.{arith}
 use borrow.Author.Needs.{needs}
-use Rattle.bench_cases.proofs.columns.open.Statement.{statement}
-use Rattle.bench_cases.proofs.columns.open.Tie as tie
-
-after-requires : tie.Need-after-requires
-after-requires c κs = search needs
-
-count-at-requires : tie.Need-count-at-requires
-count-at-requires c κs = search needs
+use Rattle.bench_cases.proofs.columns.opened_in.Statement.{statement}
+use Rattle.bench_cases.proofs.columns.opened_in.Tie as tie
 
 nothing-asked-requires : tie.Need-nothing-asked-requires
 nothing-asked-requires c κs = search needs
@@ -34,12 +28,10 @@ opened-alike-requires c κs = search needs
 returns-2 : tie.Need-returns-2
 returns-2 c = search needs
 
-pub open-spec : {M : Type 1} → statement M
-open-spec =
+pub opened-in-spec : {M : Type 1} → statement M
+opened-in-spec =
     tie.close
     (tie.spec
-    after-requires
-    count-at-requires
     nothing-asked-requires
     returns
     column-bytes-requires
