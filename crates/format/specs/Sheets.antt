@@ -18,6 +18,7 @@ use Rattle.format.specs.Varint.{spell}
 use Rattle.format.specs.Packing.{width, bytesNum}
 use Rattle.format.specs.Bodies.{blockCount}
 use Rattle.format.specs.Opening.{Loaded, readFields, opened}
+use Rattle.format.specs.Listing.{codeOf}
 
 -- ---- offending bytes
 
@@ -88,12 +89,6 @@ openedUnder (suc (suc zero)) s room = opened s room >>= (λ (o : Loaded). strict
 openedUnder (suc (suc (suc sheet))) s room = refusal 18 []
 
 -- ---- the parts of a column
-
--- the code byte of a codec
-abbrev pub codeOf : Codec → ℕ
-codeOf Bitpacked = 0
-codeOf (Linear l w) = 1
-codeOf Blockwise = 2
 
 -- the fields of k blocks in a footer, three a block, from the numbers of the table
 unfoldable pub entriesOf : (k : ℕ) (table : List ℕ) → List (List ℕ)
