@@ -10,6 +10,7 @@ pub mod Opens
 pub mod Fitting
 -- decoding
 pub mod Chunks
+pub mod Stretches
 -- looking rows up
 pub mod Scans
 pub mod Turns

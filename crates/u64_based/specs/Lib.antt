@@ -5,3 +5,4 @@ pub mod Chunks
 pub mod Lookup
 pub mod Running
 pub mod Calls
+pub mod Stretch

@@ -5,6 +5,7 @@ mod finding;
 pub mod opening;
 mod reader;
 mod runs;
+pub mod taking;
 mod writer;
 
 ghost use mathlib.Core.Path.{_≡_};
@@ -19,6 +20,8 @@ ghost use Rattle.format.specs.Reading.{rowAt};
 ghost use Rattle.format.specs.Runs.{decoded};
 ghost use Rattle.format.specs.Typed.{storedAs};
 ghost use Rattle.u64_based.specs.Calls.{SerializedAs, OpenedAs, FoundAs, RunAs};
+ghost use Rattle.u64_based.specs.Chunks.{chunkSize};
+ghost use Rattle.u64_based.specs.Stretch.{StretchAs};
 use choice::Best;
 use choice::Place;
 use format::Column;
@@ -32,6 +35,7 @@ use format::RunRead;
 use format::Stated;
 use format::Written;
 use stats::HeadRead;
+use taking::Stretch;
 
 // The statistics of some values.
 pub fn column_stats(values: &[u64]) -> Stated
@@ -149,4 +153,20 @@ pub fn run(column: Column, table: &[u64], bytes: &[u8], first: u32, out: &mut [u
         w = runs::step(column, blocks, block, bytes, w, out);
     }
     w.answer
+}
+
+// The values of the rows from `first` to the end of its block, or of the column, up to the first that reading refuses, into the front of the lent list; how many, and that row's
+// refusal if there is one. A row that is not below the column's has none.
+pub fn chunk(
+    column: Column,
+    table: &[u64],
+    bytes: &[u8],
+    first: u32,
+    out: &mut [u64; 512],
+) -> Stretch
+    ensures { λ r. ⌜ StretchAs (rowAt column (now (table .entry)) (now (bytes .entry))) first (chunkSize first (column .rows)) r (now (out .entry)) (now (out .exit)) ⌝ }
+{
+    let k = blockwise_linear::reader::split(ColumnRow(first)).block;
+    let block = blockwise_linear::reader::block_at(table, k);
+    taking::take(column, table.len() / 4, block, bytes, first, out)
 }
