@@ -1,6 +1,6 @@
 -- `take` meets its contract: no row, or the chunk, which is as long as the buffer's front.
 -- Assumes nothing.
-use mathlib.Core.Path.{_≡_, refl, sym, _∙_}
+use mathlib.Core.Path.{refl, sym, _∙_}
 use native.Mathlib.Omega.{arith}
 use Rattle.blockwise_linear.proofs.Parts.{front-length}
 use borrow.Author.Needs.{needs}
