@@ -4,6 +4,7 @@
 pub mod Fitting
 -- decoding
 pub mod Chunks
+pub mod Stretches
 -- looking rows up
 pub mod Scans
 pub mod Turns

@@ -3,4 +3,5 @@
 pub mod finding;
 pub mod reader;
 pub mod runs;
+pub mod taking;
 pub mod walks;

@@ -61,7 +61,7 @@ pub fn begin(rows: u32, first: u32, n: usize) -> Walk
 }
 
 // Copies values into a list from an entry on.
-fn copy(values: &[u64], out: &mut [u64], at: usize)
+pub(crate) fn copy(values: &[u64], out: &mut [u64], at: usize)
     requires { ⌜ at + length (now values) ≤ length (now out) ⌝ }
     ensures { λ _. ⌜ now (out .exit) ≡ sets (now (out .entry)) at (now (values .entry)) ⌝ }
 {

@@ -1,8 +1,8 @@
 -- The contracts of the entry points determine what they answer and what every lent entry holds afterwards: two results that they allow coincide.
---     stats-determined, serialize-determined, stats-as-determined, serialize-as-determined, open-plain-determined, open-determined, open-plain-under-determined, open-under-determined, row-determined, lookup-determined, run-determined
+--     stats-determined, serialize-determined, stats-as-determined, serialize-as-determined, open-plain-determined, open-determined, open-plain-under-determined, open-under-determined, row-determined, lookup-determined, run-determined, chunk-determined
 -- Assumes nothing.
 use Prim.Native.Nat.{ℕ, _/_}
-use mathlib.Core.Path.{_≡_, sym, _∙_}
+use mathlib.Core.Path.{_≡_, sym, ap, _∙_}
 use mathlib.Core.List.{List}
 use lib.ListN.{length}
 use Rattle.format.specs.declared.Column.{Column}
@@ -22,8 +22,13 @@ use Rattle.format.specs.Sheets.{openedUnder}
 use Rattle.format.specs.Stats.{stated}
 use Rattle.format.specs.Typed.{storedAs}
 use Rattle.format.specs.Writing.{written}
-use Rattle.format.proofs.Answers.{stated-injective, written-injective, opened-injective, row-injective, found-injective, run-injective}
+use Rattle.format.proofs.Answers.{numbered-injective, stated-injective, written-injective, opened-injective, row-injective, found-injective, run-injective}
+use Rattle.format.proofs.Outcomes.{not-value}
 use Rattle.format.specs.Calls.{FoundAs, RunAs, SerializedAs, OpenedAs}
+use Rattle.reading.specs.declared.taking.Stretch.{Stretch}
+use Rattle.reading.specs.declared.taking.Stretch.the-variants.{Whole, Stopped}
+use Rattle.reading.specs.Chunks.{chunkSize}
+use Rattle.reading.specs.Stretch.{counted, ended, StretchAs}
 
 -- two answers of `column_stats`
 pub stats-determined : (values : List ℕ) (a b : Stated) → statedMeaning a ≡ stated values → statedMeaning b ≡ stated values → a ≡ b
@@ -80,3 +85,19 @@ pub run-determined : (column : Column) (table bytes : List ℕ) (first : ℕ) (o
     → (a ≡ b) × (after ≡ after′)
 run-determined column table bytes first out a b after after′ p q =
     (run-injective a b (p .answer ∙ sym (q .answer)), p .list ∙ sym (q .list))
+
+-- two answers of `chunk`, and what the lent list holds afterwards
+stretch-same : (a b : Stretch) → counted a ≡ counted b → ended a ≡ ended b → a ≡ b
+stretch-same (Whole n) (Whole m) many end = ap Whole many
+stretch-same (Whole n) (Stopped m y) many end = absurd (not-value (sym end))
+stretch-same (Stopped n x) (Whole m) many end = absurd (not-value end)
+stretch-same (Stopped n x) (Stopped m y) many end =
+    let why : x ≡ y = numbered-injective x y end in
+    λ i. Stopped (many i) (why i)
+
+pub chunk-determined : (column : Column) (table bytes : List ℕ) (first : ℕ) (out : List ℕ) (a b : Stretch) (after after′ : List ℕ)
+    → StretchAs (rowAt column table bytes) first (chunkSize first (column .rows)) a out after
+    → StretchAs (rowAt column table bytes) first (chunkSize first (column .rows)) b out after′
+    → (a ≡ b) × (after ≡ after′)
+chunk-determined column table bytes first out a b after after′ p q =
+    (stretch-same a b (p .count ∙ sym (q .count)) (p .end ∙ sym (q .end)), p .list ∙ sym (q .list))

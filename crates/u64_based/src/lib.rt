@@ -15,6 +15,8 @@ ghost use Rattle.format.specs.Reading.{rowAt};
 ghost use Rattle.format.specs.Runs.{decoded};
 ghost use Rattle.format.specs.Typed.{storedAs};
 ghost use Rattle.format.specs.Calls.{SerializedAs, OpenedAs, FoundAs, RunAs};
+ghost use Rattle.reading.specs.Chunks.{chunkSize};
+ghost use Rattle.reading.specs.Stretch.{StretchAs};
 use format::Column;
 use format::ColumnRow;
 use format::Found;
@@ -25,6 +27,7 @@ use format::RowRead;
 use format::RunRead;
 use format::Stated;
 use format::Written;
+use reading::taking::Stretch;
 use stats::HeadRead;
 use writing::choice::Best;
 use writing::choice::Place;
@@ -173,4 +176,20 @@ pub fn run(column: Column, table: &[u64], bytes: &[u8], first: u32, out: &mut [u
         w = reading::runs::step(column, blocks, block, bytes, w, out);
     }
     reading::runs::answer(w)
+}
+
+// The values of the rows from `first` to the end of its block, or of the column, up to the first that reading refuses, into the front of the lent list; how many, and that row's
+// refusal if there is one. A row that is not below the column's has none.
+pub fn chunk(
+    column: Column,
+    table: &[u64],
+    bytes: &[u8],
+    first: u32,
+    out: &mut [u64; 512],
+) -> Stretch
+    ensures { λ r. ⌜ StretchAs (rowAt column (now (table .entry)) (now (bytes .entry))) first (chunkSize first (column .rows)) r (now (out .entry)) (now (out .exit)) ⌝ }
+{
+    let k = blockwise_linear::reader::split(ColumnRow(first)).block;
+    let block = blockwise_linear::reader::block_at(table, k);
+    reading::taking::take(column, table.len() / 4, block, bytes, first, out)
 }
