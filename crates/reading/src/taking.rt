@@ -89,7 +89,7 @@ pub fn take(
         return Stretch::Whole(0);
     }
     let mut buffer = [0u64; 512];
-    let size = crate::finding::chunk_size(first, column.rows);
+    let size = crate::walks::chunk_size(first, column.rows);
     take_through(
         column,
         blocks,
