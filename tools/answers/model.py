@@ -382,6 +382,12 @@ def read_row(column, table, s, row):
     return column.minimum + column.gcd * n
 
 
+def read_run(column, table, s, first, length):
+    """The values of so many rows from one on. A run that leaves the rows is refused before all else, so an empty one may stand at their end."""
+    demand(first + length <= column.rows, 12)
+    return [read_row(column, table, s, row) for row in range(first, first + length)]
+
+
 # ---- kinds of values, each value a word of 64 bits: numbers, signed numbers and dates in two's complement, bools, floats by their bits
 
 U64, I64, DATE, BOOL, F64 = range(5)

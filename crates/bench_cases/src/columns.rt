@@ -1,4 +1,4 @@
-// The records OPEN, UNDER and MADE: a column that is opened or put together, and then asked. Each function is told the record's place and its end.
+// The records OPEN, UNDER, MADE and RUN: a column that is opened or put together, and then asked. Each function is told the record's place and its end.
 use crate::answers::Outcome;
 use crate::answers::nothing_asked;
 use crate::answers::of_opening;
@@ -204,7 +204,7 @@ pub(crate) fn under(file: &[u8], at: usize, end: usize) -> Outcome {
     opened_in(sheet, room, file, at, end)
 }
 
-// A record MADE. Its table is as long as it is filled.
+// A record MADE or RUN. Its table is as long as it is filled.
 pub(crate) fn made(file: &[u8], at: usize, end: usize) -> Outcome {
     let room = count_at(file, after(at, 14));
     if TABLE < room {

@@ -1,9 +1,12 @@
-// The questions to a column: rows, and lookups. The upper half of a row, and of a lookup's first row, is the number of a kind, by which values are read.
+// The questions to a column: rows, and lookups or runs. The upper half of a row, and of a lookup's first row, is the number of a kind, by which values are read.
 use crate::answers::Outcome;
 use crate::answers::of_row;
 use crate::answers::refused;
 use crate::answers::success;
+use crate::lent::NUMBER;
 use crate::lent::ROW;
+use crate::lent::numbers_kept;
+use crate::lent::numbers_stored;
 use crate::lent::rows_kept;
 use crate::lent::rows_stored;
 use crate::typed::kind_of;
@@ -17,6 +20,7 @@ use crate::words::word_at;
 use format::Column;
 use format::ColumnRow;
 use format::Found;
+use format::RunRead;
 
 // How many questions were answered as stored, and the place behind them.
 struct Walk {
@@ -99,8 +103,58 @@ fn lookup_alike(column: Column, table: &[u64], bytes: &[u8], file: &[u8], at: us
     found_alike(column, table, bytes, file, at, &mut found[..length])
 }
 
-// Makes so many lookups, up to the first that is answered otherwise.
+// Whether the run at a place, into a list of marks, is answered as stored: a run fills its list, or leaves it.
+fn values_alike(
+    column: Column,
+    table: &[u64],
+    bytes: &[u8],
+    file: &[u8],
+    at: usize,
+    out: &mut [u64],
+) -> bool {
+    let first = half_at(file, after(at, 2));
+    let stored = count_at(file, after(at, 7));
+    match u64_based::run(column, table, bytes, first, out) {
+        RunRead::Values(n) => {
+            n == stored
+                && n == out.len()
+                && success().is_stored(file, after(at, 5))
+                && numbers_stored(out, n, file, after(at, 8))
+        }
+        RunRead::Refused(why) => {
+            stored == 0 && refused(why).is_stored(file, after(at, 5)) && numbers_kept(out, 0)
+        }
+    }
+}
+
+// The same, with a list of the length that the run names.
+fn run_alike(column: Column, table: &[u64], bytes: &[u8], file: &[u8], at: usize) -> bool {
+    let length = count_at(file, after(at, 4));
+    if 256 < length {
+        return false;
+    }
+    let mut out = [NUMBER; 256];
+    values_alike(column, table, bytes, file, at, &mut out[..length])
+}
+
+// Whether what stands at a place, a run or a lookup, is answered as stored.
+fn asked_alike(
+    runs: bool,
+    column: Column,
+    table: &[u64],
+    bytes: &[u8],
+    file: &[u8],
+    at: usize,
+) -> bool {
+    if runs {
+        return run_alike(column, table, bytes, file, at);
+    }
+    lookup_alike(column, table, bytes, file, at)
+}
+
+// Makes so many lookups, or runs, up to the first that is answered otherwise.
 fn ask_lookups(
+    runs: bool,
     column: Column,
     table: &[u64],
     bytes: &[u8],
@@ -111,7 +165,7 @@ fn ask_lookups(
     let mut asked = 0;
     let mut at = from;
     while asked < count {
-        if !lookup_alike(column, table, bytes, file, at) {
+        if !asked_alike(runs, column, table, bytes, file, at) {
             break;
         }
         asked += 1;
@@ -120,7 +174,7 @@ fn ask_lookups(
     Walk { asked, at }
 }
 
-// Asks the rows and makes the lookups of a record, which stand from a place on to the record's end.
+// Asks the rows and makes the lookups of a record, which stand from a place on to the record's end. The lookups of a record RUN are runs.
 pub(crate) fn ask(
     column: Column,
     table: &[u64],
@@ -133,7 +187,8 @@ pub(crate) fn ask(
     let rows = count_at(file, after(record, 16));
     let lookups = count_at(file, after(record, 17));
     let read = ask_rows(column, table, bytes, file, from, rows);
-    let looked = ask_lookups(column, table, bytes, file, read.at, lookups);
+    let runs = word_at(file, record) % 256 == 5;
+    let looked = ask_lookups(runs, column, table, bytes, file, read.at, lookups);
     Outcome {
         rows: read.asked,
         lookups: looked.asked,

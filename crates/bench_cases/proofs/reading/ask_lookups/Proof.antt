@@ -1,4 +1,4 @@
--- `ask_lookups` is safe and ends: each turn but the last makes one lookup more.
+-- `ask_lookups` is safe and ends: each turn but the last makes one lookup or run more.
 -- Assumes nothing.
 use Prim.Native.Nat.{_-_}
 use borrow.Author.Needs.{needs}
@@ -6,16 +6,16 @@ use Rattle.bench_cases.proofs.reading.ask_lookups.Statement.{statement}
 use Rattle.bench_cases.proofs.reading.ask_lookups.Tie as tie
 
 abbrev Inv-loop : tie.InvT-loop
-Inv-loop column table bytes file from count asked₀ at₀ asked at = Unit {0}
+Inv-loop runs column table bytes file from count asked₀ at₀ asked at = Unit {0}
 
 abbrev μ-loop : tie.MeasureT-loop
-μ-loop column table bytes file from count asked₀ at₀ asked at = count - asked
+μ-loop runs column table bytes file from count asked₀ at₀ asked at = count - asked
 
 loop-holds : tie.Need-loop-holds Inv-loop μ-loop
 loop-holds c = search needs
 
-lookup-alike-requires : tie.Need-lookup-alike-requires Inv-loop μ-loop
-lookup-alike-requires c κs = search needs
+asked-alike-requires : tie.Need-asked-alike-requires Inv-loop μ-loop
+asked-alike-requires c κs = search needs
 
 add-asked : tie.Need-add-asked Inv-loop μ-loop
 add-asked c = search needs
@@ -51,7 +51,7 @@ ask-lookups-spec =
     Inv-loop
     μ-loop
     loop-holds
-    lookup-alike-requires
+    asked-alike-requires
     add-asked
     after-requires
     after-requires-2
