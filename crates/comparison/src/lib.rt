@@ -14,7 +14,6 @@ ghost use Rattle.format.specs.Reading.{rowAt};
 ghost use Rattle.comparison.specs.Beginning.{BegunAs};
 ghost use Rattle.comparison.specs.Chunk.{pairChunk, comparedIn};
 use format::Column;
-use format::ColumnRow;
 use format::Opened;
 use lines::Done;
 use text::lines::named_line;
@@ -90,14 +89,20 @@ pub fn fill_lines(
     ensures { λ r. ⌜ Counts (r .bytes) (now (out .exit)) ⌝ }
 {
     let rows = row_count(left, right);
+    let mut lvalues = [0u64; 512];
+    let mut rvalues = [0u64; 512];
+    let mut lheld = text::held::nothing();
+    let mut rheld = text::held::nothing();
     let mut r = from;
     let mut done = Done { lines: 0, bytes: 0 };
     while r < rows {
         if out.len() - done.bytes < LINE_MAX {
             break;
         }
-        let a = u64_based::row(left, ltable, lbytes, ColumnRow(r));
-        let b = u64_based::row(right, rtable, rbytes, ColumnRow(r));
+        lheld = text::held::hold(left, ltable, lbytes, r, lheld, &mut lvalues);
+        rheld = text::held::hold(right, rtable, rbytes, r, rheld, &mut rvalues);
+        let a = text::held::answer(left, ltable, lbytes, r, lheld, &lvalues);
+        let b = text::held::answer(right, rtable, rbytes, r, rheld, &rvalues);
         done = lines::put_row(out, done, r, a, b);
         r += 1;
     }

@@ -13,7 +13,6 @@ ghost use Rattle.listing.specs.Beginning.{BegunAs};
 ghost use Rattle.listing.specs.Chunk.{lineMax};
 ghost use Rattle.text.specs.Chunk.{chunk, filled};
 use format::Column;
-use format::ColumnRow;
 use format::Opened;
 use text::Filled;
 use text::lines::named_line;
@@ -59,18 +58,17 @@ pub fn fill_lines(column: Column, table: &[u64], bytes: &[u8], from: u32, out: &
     ensures { λ _. ⌜ now (out .exit) ≡ sets (now (out .entry)) 0 (chunk (rowLine (rowAt column (now (table .entry)) (now (bytes .entry)))) lineMax (column .rows) (length (now (out .entry))) from) ⌝ }
     ensures { λ r. ⌜ Counts (r .bytes) (now (out .exit)) ⌝ }
 {
+    let mut values = [0u64; 512];
+    let mut held = text::held::nothing();
     let mut r = from;
     let mut at = 0;
     while r < column.rows {
         if out.len() - at < LINE_MAX {
             break;
         }
-        at = lines::put_row(
-            out,
-            at,
-            r,
-            u64_based::row(column, table, bytes, ColumnRow(r)),
-        );
+        held = text::held::hold(column, table, bytes, r, held, &mut values);
+        let answer = text::held::answer(column, table, bytes, r, held, &values);
+        at = lines::put_row(out, at, r, answer);
         r += 1;
     }
     Filled {

@@ -6,6 +6,8 @@ pub mod Texts
 -- opening within a program's limits, and the rows of what it opened
 pub mod Limits
 pub mod Rows
+-- rows in ascending order
+pub mod Holding
 -- rows' text, chunk by chunk
 pub mod Chunks
 pub mod Filling

@@ -1,5 +1,6 @@
 // What the libraries above have in common that say something of a column as text: opening within a program's limits, numbers and answers
-// written into a lent buffer, and what a bufferful of rows' text is.
+// written into a lent buffer, rows in ascending order, and what a bufferful of rows' text is.
+pub mod held;
 pub mod lines;
 pub mod opening;
 pub mod put;

@@ -1,13 +1,15 @@
--- `fill_lines` meets its contract. The invariant is `Pairing`; the measure is the number of rows left.
+-- `fill_lines` meets its contract. The invariant is `Pairing`, with what the values at hand of both sides hold; the measure is the number of rows left.
 -- Assumes nothing.
-use Prim.Native.Nat.{_-_, max}
-use mathlib.Core.Path.{_≡_}
+use Prim.Native.Nat.{_+_, _-_, _^_, _<_, max}
+use mathlib.Core.Path.{_≡_, refl}
 use mathlib.Core.Logic.{⊎-elim}
 use native.Mathlib.Omega.{arith}
 use lib.ListN.{length}
 use denote.Ref.{now}
 use Rattle.format.specs.Reading.{rowAt}
+use Rattle.text.specs.Holding.{Holds}
 use Rattle.text.proofs.Chunks.{chunk-none, chunk-full}
+use Rattle.text.proofs.Holding.{holds-nothing}
 use Rattle.text.proofs.Texts.{counts}
 use Rattle.comparison.specs.Chunk.{pairRows}
 use Rattle.comparison.proofs.Filling.{Pairing, pairing-starts, pairing-few, pairing-more, pairing-answer, pairing-list}
@@ -15,52 +17,82 @@ use Rattle.comparison.proofs.fill_lines.Statement.{statement}
 use Rattle.comparison.proofs.fill_lines.Tie as tie
 
 abbrev Inv-loop : tie.InvT-loop
-Inv-loop left ltable lbytes right rtable rbytes from out₀ rows r₀ done₀ out r done =
+Inv-loop left ltable lbytes right rtable rbytes from out₀ rows lvalues₀ rvalues₀ lheld₀ rheld₀ r₀ done₀ out lvalues rvalues lheld rheld r done =
     Pairing (rowAt left ltable lbytes) (rowAt right rtable rbytes) (max (left .rows) (right .rows)) from out₀ out r (done .lines) (done .bytes) × (rows ≡ max (left .rows) (right .rows))
+    × Holds (rowAt left ltable lbytes) lheld lvalues
+    × Holds (rowAt right rtable rbytes) rheld rvalues
 
 abbrev μ-loop : tie.MeasureT-loop
-μ-loop left ltable lbytes right rtable rbytes from out₀ rows r₀ done₀ out r done = rows - r
+μ-loop left ltable lbytes right rtable rbytes from out₀ rows lvalues₀ rvalues₀ lheld₀ rheld₀ r₀ done₀ out lvalues rvalues lheld rheld r done = rows - r
 
 row-count-requires : tie.Need-row-count-requires Inv-loop μ-loop
 row-count-requires c κs = tt
 
+nothing-requires : tie.Need-nothing-requires Inv-loop μ-loop
+nothing-requires c κs = tt
+
+nothing-requires-2 : tie.Need-nothing-requires-2 Inv-loop μ-loop
+nothing-requires-2 c κs = tt
+
 loop-holds : tie.Need-loop-holds Inv-loop μ-loop
-loop-holds c = (pairing-starts _ _ _ _ _, c .row-count .ensures)
+loop-holds c =
+    (pairing-starts _ _ _ _ _, c .before .before .row-count .ensures, holds-nothing _ _ _ refl (c .before .nothing .ensures), holds-nothing _ _ _ refl (c .nothing2 .ensures))
 
 sub-if1 : tie.Need-sub-if1 Inv-loop μ-loop
 sub-if1 c = omega arith
 
-row-requires : tie.Need-row-requires Inv-loop μ-loop
-row-requires c κs = omega arith
+hold-requires : tie.Need-hold-requires Inv-loop μ-loop
+hold-requires c κs = c .before .before .before .before .loop .inv .2
 
-row-requires-2 : tie.Need-row-requires-2 Inv-loop μ-loop
-row-requires-2 c κs = omega arith
+hold-requires-2 : tie.Need-hold-requires-2 Inv-loop μ-loop
+hold-requires-2 c κs = c .before .before .before .before .before .before .loop .inv .3
+
+answer-requires : tie.Need-answer-requires Inv-loop μ-loop
+answer-requires c κs = c .before .before .before .hold .ensures
+
+answer-requires-2 : tie.Need-answer-requires-2 Inv-loop μ-loop
+answer-requires-2 c κs = c .before .before .before .hold2 .ensures
+
+-- a row that is looked at has one behind it
+few : (c : tie.In-loop Inv-loop μ-loop) → c .before .loop .r + 1 < 2 ^ 32
+few c = omega arith
 
 put-row-requires : tie.Need-put-row-requires Inv-loop μ-loop
-put-row-requires c κs = omega (arith, pairing-few (c .before .before .before .before .before .before .loop .inv .0))
+put-row-requires c κs =
+    let free = c .before .before .before .before .before .before .before .before .before in
+    let turn = free .before .before in
+    omega (arith, free .if1 .left, few turn, pairing-few (turn .before .loop .inv .0))
 
 add-r : tie.Need-add-r Inv-loop μ-loop
-add-r c = omega arith
+add-r c = omega (arith, few (c .before .before .before .before .before .before .before .before .before .before .before .before .before .before))
 
 loop-less : tie.Need-loop-less Inv-loop μ-loop
-loop-less c = omega arith
+loop-less c = omega (arith, c .before .before .before .before .before .before .before .before .before .before .before .before .before .before .loop-test .taken)
 
 loop-again : tie.Need-loop-again Inv-loop μ-loop
 loop-again c =
     let wrote = c .before .before .put-row .ensures in
-    let rows = c .before .before .before .before in
-    let at = rows .before .before .before .before .before .loop .inv in
-    (pairing-more (at .0) (omega arith) (omega arith) (rows .before .row .ensures) (rows .row2 .ensures) (wrote .0) (wrote .1 .0) (wrote .1 .1), at .1)
+    let said = c .before .before .before .before in
+    let kept = said .before .before .before .before in
+    let free = kept .before .before .before .before in
+    let turn = free .before .before in
+    let at = turn .before .loop .inv in (
+      pairing-more (at .0) (omega (arith, turn .loop-test .taken, at .1)) (omega (arith, free .if1 .left)) (said .before .before .answer .ensures) (said .answer2 .ensures)
+          (wrote .0) (wrote .1 .0) (wrote .1 .1),
+      at .1,
+      kept .before .before .hold .ensures,
+      kept .hold2 .ensures,
+    )
 
-sub-t20 : tie.Need-sub-t20 Inv-loop μ-loop
-sub-t20 c = omega (arith, c .before .loop .inv .0 .text .start)
+sub-t27 : tie.Need-sub-t27 Inv-loop μ-loop
+sub-t27 c = omega (arith, c .before .loop .inv .0 .text .start)
 
 same-length : tie.Need-same-length Inv-loop μ-loop
 same-length c = c .before .loop .inv .0 .text .kept
 
 -- the loop is left where no row is left, or no room
 none-left : (c : tie.Left-loop Inv-loop μ-loop) →
-    let a = c .before .before .before .before .before .before .before .before .args in
+    let a = c .before .before .before .before .before .before .before .before .before .before .args in
     pairRows (rowAt (a .left) (now (a .ltable)) (now (a .lbytes))) (rowAt (a .right) (now (a .rtable)) (now (a .rbytes))) (max (a .left .rows) (a .right .rows))
     (length (a .out .now) - c .before .loop .done .bytes) (c .before .loop .r) ≡ 0
 none-left c = ⊎-elim (λ w. chunk-none _ _ _ _ _ (omega (arith, w .left))) (λ w. chunk-full _ _ _ _ _ (omega (arith, w .2 .taken))) (c .loop-test .came)
@@ -77,14 +109,18 @@ fill-lines-spec =
     Inv-loop
     μ-loop
     row-count-requires
+    nothing-requires
+    nothing-requires-2
     loop-holds
     sub-if1
-    row-requires
-    row-requires-2
+    hold-requires
+    hold-requires-2
+    answer-requires
+    answer-requires-2
     put-row-requires
     add-r
     loop-less
     loop-again
-    sub-t20
+    sub-t27
     same-length
     returns)

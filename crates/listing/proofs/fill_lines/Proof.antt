@@ -1,7 +1,7 @@
--- `fill_lines` meets its contract. The invariant is `Filling`; the measure is the number of rows left.
+-- `fill_lines` meets its contract. The invariant is `Filling`, with what the values at hand hold; the measure is the number of rows left.
 -- Assumes nothing.
 use Prim.Native.Nat.{_-_}
-use mathlib.Core.Path.{_≡_}
+use mathlib.Core.Path.{_≡_, refl}
 use mathlib.Core.Logic.{⊎-elim}
 use native.Mathlib.Omega.{arith}
 use lib.ListN.{length}
@@ -9,8 +9,10 @@ use denote.Ref.{now}
 use Rattle.format.specs.Listing.{rowLine}
 use Rattle.format.specs.Reading.{rowAt}
 use Rattle.text.specs.Chunk.{chunkRows}
+use Rattle.text.specs.Holding.{Holds}
 use Rattle.text.proofs.Chunks.{chunk-none, chunk-full}
 use Rattle.text.proofs.Filling.{Filling, filling-starts, filling-more, filling-answer, filling-list}
+use Rattle.text.proofs.Holding.{holds-nothing}
 use Rattle.text.proofs.Texts.{counts}
 use Rattle.listing.specs.Chunk.{lineMax}
 use Rattle.listing.proofs.RowLines.{line-wrote}
@@ -18,19 +20,26 @@ use Rattle.listing.proofs.fill_lines.Statement.{statement}
 use Rattle.listing.proofs.fill_lines.Tie as tie
 
 abbrev Inv-loop : tie.InvT-loop
-Inv-loop column table bytes from out₀ r₀ at₀ out r at = Filling (rowLine (rowAt column table bytes)) lineMax (column .rows) from out₀ out r at
+Inv-loop column table bytes from out₀ values₀ held₀ r₀ at₀ out values held r at =
+    Filling (rowLine (rowAt column table bytes)) lineMax (column .rows) from out₀ out r at × Holds (rowAt column table bytes) held values
 
 abbrev μ-loop : tie.MeasureT-loop
-μ-loop column table bytes from out₀ r₀ at₀ out r at = column .rows - r
+μ-loop column table bytes from out₀ values₀ held₀ r₀ at₀ out values held r at = column .rows - r
+
+nothing-requires : tie.Need-nothing-requires Inv-loop μ-loop
+nothing-requires c κs = tt
 
 loop-holds : tie.Need-loop-holds Inv-loop μ-loop
-loop-holds c = filling-starts _ _ _ _ _
+loop-holds c = (filling-starts _ _ _ _ _, holds-nothing _ _ _ refl (c .nothing .ensures))
 
 sub-if2 : tie.Need-sub-if2 Inv-loop μ-loop
 sub-if2 c = omega arith
 
-row-requires : tie.Need-row-requires Inv-loop μ-loop
-row-requires c κs = omega arith
+hold-requires : tie.Need-hold-requires Inv-loop μ-loop
+hold-requires c κs = c .before .before .before .before .loop .inv .1
+
+answer-requires : tie.Need-answer-requires Inv-loop μ-loop
+answer-requires c κs = c .before .hold .ensures
 
 put-row-requires : tie.Need-put-row-requires Inv-loop μ-loop
 put-row-requires c κs = omega arith
@@ -43,25 +52,27 @@ loop-less c = omega arith
 
 loop-again : tie.Need-loop-again Inv-loop μ-loop
 loop-again c =
-    let at-row = c .before .before .before in
-    let wrote = c .before .before .put-row .ensures in
-    filling-more (at-row .before .before .before .before .before .loop .inv) (omega arith) (omega arith) (line-wrote _ _ (at-row .row .ensures) (wrote .0)) (wrote .1)
+    let put = c .before .before in
+    let said = put .before .before in
+    let kept = said .before .before in
+    let wrote = put .put-row .ensures in
+    (filling-more (kept .before .before .before .before .before .loop .inv .0) (omega arith) (omega arith) (line-wrote _ _ (said .answer .ensures) (wrote .0)) (wrote .1), kept .hold .ensures)
 
-sub-t15 : tie.Need-sub-t15 Inv-loop μ-loop
-sub-t15 c = omega arith
+sub-t18 : tie.Need-sub-t18 Inv-loop μ-loop
+sub-t18 c = omega arith
 
 same-length : tie.Need-same-length Inv-loop μ-loop
-same-length c = c .before .before .loop .inv .kept
+same-length c = c .before .before .loop .inv .0 .kept
 
 -- the loop is left where no row is left, or no room
 none-left : (c : tie.Joined1 Inv-loop μ-loop) →
-    let a = c .before .before .before .before .before .before .args in
+    let a = c .before .before .before .before .before .before .before .args in
     chunkRows (rowLine (rowAt (a .column) (now (a .table)) (now (a .bytes)))) lineMax (a .column .rows) (length (a .out .now) - c .before .before .loop .at) (c .before .before .loop .r) ≡ 0
 none-left c = ⊎-elim (λ w. chunk-none _ _ _ _ _ (w .left)) (λ w. chunk-full _ _ _ _ _ (omega (arith, w .1 .taken))) (c .if1 .came)
 
 returns : tie.Need-returns Inv-loop μ-loop
 returns c =
-    let f = c .before .before .loop .inv in
+    let f = c .before .before .loop .inv .0 in
     (filling-answer f (none-left c), (filling-list f (none-left c), counts _ _ (omega arith)))
 
 pub fill-lines-spec : {M : Type 1} → statement M
@@ -70,13 +81,15 @@ fill-lines-spec =
     (tie.spec
     Inv-loop
     μ-loop
+    nothing-requires
     loop-holds
     sub-if2
-    row-requires
+    hold-requires
+    answer-requires
     put-row-requires
     add-r
     loop-less
     loop-again
-    sub-t15
+    sub-t18
     same-length
     returns)
