@@ -82,15 +82,16 @@ pub fn list(random: &mut Random, kind: usize) -> Vec<u64> {
     }
 }
 
-/// Few multiples of a number that is a power of two, or up to three away from one: there f32 may round the gcd, or its logarithm, up to the power.
+/// Few multiples of a number that is a power of two, or up to three away from one: there f32 may round the gcd, or its logarithm, up to the power. The first
+/// two are 0 and the number itself, so that it is the gcd.
 pub fn near_power(random: &mut Random) -> Vec<u64> {
-    let power = 2 + random.below(63) as u32;
+    let power = 3 + random.below(62) as u32;
     let away = random.below(7) as i128 - 3;
     let step = ((1i128 << power) + away).clamp(2, i128::from(u64::MAX)) as u64;
     let most = (u64::MAX / step).min(1 << random.below(9));
     let rows = 2 + random.below(40) as u64;
     let rising = |i: u64| i % (most + 1);
-    let mut each = |f: &mut dyn FnMut(u64, &mut Random) -> u64| (0..rows).map(|i| step * f(i, random)).collect();
+    let mut each = |f: &mut dyn FnMut(u64, &mut Random) -> u64| (0..rows).map(|i| step * if i < 2 { i } else { f(i, random) }).collect();
     match most % 3 {
         0 => each(&mut |_, r| r.next() % (most + 1)),
         1 => each(&mut |i, _| rising(i)),

@@ -257,12 +257,18 @@ fn lists_of_note() -> Vec<Vec<u64>> {
     ]
 }
 
+/// Whether a gcd, above the least, lies within 3 of a power of two.
+fn is_near_power(gcd: u64) -> bool {
+    gcd > 4 && (2..=64).any(|power| (1i128 << power).abs_diff(i128::from(gcd)) <= 3)
+}
+
 /// Whether this platform's log2 is that of the table that the saving goes by: each bound is the least f32 whose log2 reaches its power.
 fn bounds_hold() -> bool {
     let source = include_str!("../../../../crates/float/src/saving.rt");
     let table = source.split_once("[u32; 65] = [").and_then(|(_, rest)| rest.split_once(']')).expect("the table of bounds").0;
-    let bounds = table.split(',').filter_map(|word| u32::from_str_radix(word.trim().strip_prefix("0x")?, 16).ok()).map(f32::from_bits);
-    bounds.enumerate().all(|(power, bound)| bound.log2() >= power as f32 && bound.next_down().log2() < power as f32)
+    let bounds: Vec<f32> = table.split(',').filter_map(|word| u32::from_str_radix(word.trim().strip_prefix("0x")?, 16).ok()).map(f32::from_bits).collect();
+    assert_eq!(bounds.len(), 65, "the table of bounds");
+    bounds.into_iter().enumerate().all(|(power, bound)| bound.log2() >= power as f32 && bound.next_down().log2() < power as f32)
 }
 
 fn main() -> ExitCode {
@@ -275,16 +281,18 @@ fn main() -> ExitCode {
     for values in lists_of_note() {
         compare_choices(&mut tally, &values);
     }
+    let mut near = 0;
     for turn in 0..many {
-        // Every third has a gcd on or near a power of two.
+        // Every third has a gcd on or near a power of two; how many really have is counted.
         let values = if turn % 3 == 2 { lists::near_power(&mut random) } else { lists::list(&mut random, (turn as usize / 3 * 2 + turn as usize % 3) % lists::KINDS) };
         compare_list(&mut tally, &mut random, &values);
         typed::compare(&mut tally, &mut typed_random, &values);
         if turn % 3 == 2 {
+            near += usize::from(is_near_power(columnar::stats(&values).gcd.get()));
             compare_choices(&mut tally, &values);
         }
     }
-    println!("{many} lists, {} of them with a gcd within 3 of a power of two, the others of {} kinds; seed {seed}", many / 3, lists::KINDS);
+    println!("{many} lists: {near} of the {} made for it have a gcd above 4 within 3 of a power of two, the others are of {} kinds; seed {seed}", many / 3, lists::KINDS);
     if !bounds_hold() {
         println!("log2 of an f32 is another here than in the table of bounds (docs/DIFFERENCES.md): the choice of a codec may differ");
     }
