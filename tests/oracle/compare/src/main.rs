@@ -266,7 +266,8 @@ fn is_near_power(gcd: u64) -> bool {
 fn bounds_hold() -> bool {
     let source = include_str!("../../../../crates/float/src/saving.rt");
     let table = source.split_once("[u32; 65] = [").and_then(|(_, rest)| rest.split_once(']')).expect("the table of bounds").0;
-    let bounds: Vec<f32> = table.split(',').filter_map(|word| u32::from_str_radix(word.trim().strip_prefix("0x")?, 16).ok()).map(f32::from_bits).collect();
+    let bounds: Vec<f32> =
+        table.split(',').filter_map(|word| u32::from_str_radix(word.trim().strip_prefix("0x")?, 16).ok()).map(f32::from_bits).collect();
     assert_eq!(bounds.len(), 65, "the table of bounds");
     bounds.into_iter().enumerate().all(|(power, bound)| bound.log2() >= power as f32 && bound.next_down().log2() < power as f32)
 }
@@ -284,7 +285,11 @@ fn main() -> ExitCode {
     let mut near = 0;
     for turn in 0..many {
         // Every third has a gcd on or near a power of two; how many really have is counted.
-        let values = if turn % 3 == 2 { lists::near_power(&mut random) } else { lists::list(&mut random, (turn as usize / 3 * 2 + turn as usize % 3) % lists::KINDS) };
+        let values = if turn % 3 == 2 {
+            lists::near_power(&mut random)
+        } else {
+            lists::list(&mut random, (turn as usize / 3 * 2 + turn as usize % 3) % lists::KINDS)
+        };
         compare_list(&mut tally, &mut random, &values);
         typed::compare(&mut tally, &mut typed_random, &values);
         if turn % 3 == 2 {
@@ -292,7 +297,11 @@ fn main() -> ExitCode {
             compare_choices(&mut tally, &values);
         }
     }
-    println!("{many} lists: {near} of the {} made for it have a gcd above 4 within 3 of a power of two, the others are of {} kinds; seed {seed}", many / 3, lists::KINDS);
+    println!(
+        "{many} lists: {near} of the {} made for it have a gcd above 4 within 3 of a power of two, the others are of {} kinds; seed {seed}",
+        many / 3,
+        lists::KINDS
+    );
     if !bounds_hold() {
         println!("log2 of an f32 is another here than in the table of bounds (docs/DIFFERENCES.md): the choice of a codec may differ");
     }
