@@ -29,37 +29,11 @@ use format::Written;
 // The two numbers where nothing is refused.
 const ACCEPTED: [u64; 2] = [0, 0];
 
-// The value that a refusal also returns, 0 where it returns none.
-fn also(refusal: Refusal) -> u64
-    ensures { λ r. ⌜ r ≡ getD (paper refusal .1) 0 0 ⌝ }
-{
-    match refusal {
-        Refusal::TooManyValues => 0,
-        Refusal::UnknownCodec { place } => place as u64,
-        Refusal::NoCodecApplies => 0,
-        Refusal::OutputShort { needed } => needed as u64,
-        Refusal::NotAColumn => 0,
-        Refusal::BadField { offset } => offset as u64,
-        Refusal::GcdZero => 0,
-        Refusal::OutOfRange => 0,
-        Refusal::IllegalWidth { offset } => offset as u64,
-        Refusal::AreaShort => 0,
-        Refusal::TableShort { blocks } => blocks as u64,
-        Refusal::NoSuchRow => 0,
-        Refusal::Unfit => 0,
-        Refusal::OutOfBounds { row } => row as u64,
-        Refusal::ListShort { found } => found as u64,
-        Refusal::OverLimit => 0,
-        Refusal::Offending { offset } => offset as u64,
-        Refusal::UnknownSheet => 0,
-    }
-}
-
 // The two numbers of a refusal.
 fn told(refusal: Refusal) -> [u64; 2]
     ensures { λ r. ⌜ r ≡ paper refusal .0 ∷ getD (paper refusal .1) 0 0 ∷ [] ⌝ }
 {
-    [word::wide(refusal.number()), also(refusal)]
+    [word::wide(refusal.number()), refusal.also()]
 }
 
 // The offset of the first longer spelling.

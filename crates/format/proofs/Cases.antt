@@ -12,7 +12,7 @@ use Rattle.format.specs.Bodies.{body, bitpacked, linear, linearLine, lin
 use Rattle.format.specs.Writing.{written, known, chosen, sizeOf, blockSize, blockSizes}
 use Rattle.format.specs.Saving.{saving, exponentOf, lastReached, powerBounds, reaches, inF32, nearest}
 use Rattle.format.specs.Opening.{opened, openBody, openBitpacked, openLinear, openBlockwise, readWidth, readFields, readBlocks}
-use Rattle.format.specs.Sheets.{lastFields, ending, strict, openedUnder}
+use Rattle.format.specs.Sheets.{lastFields, ending, strict, underSheet, openedUnder}
 use Rattle.format.specs.Reading.{rowIn, placeIn, columnFits, rowFits, fits, packedOf, valueIn}
 use Rattle.format.specs.Runs.{readRun, decoded}
 use Rattle.format.specs.Lookup.{lookedUp, allRead, rowsPassing}
@@ -75,5 +75,5 @@ cases = marked ++ (rules ++ (runs ++ longs))
 
 -- the definitions give the right answer to each
 pub cases-hold : map (λ (c : Case). answer (question c)) cases ≡ map said cases
-unfolding answer lineOf upwards downwards times spell spellIn scan readVarint width bitLength bitsIn packed bytesOf rowsBits bitsOf numOf unpack statsOf reduce foldFrom gcd euclid spellHead readHead lineAt trained rising height slopeOf nearer residuals residualsFrom spellLine written known chosen sizeOf body bitpacked linear linearLine linearWidth deviations blockwise blocks blocksIn blockArea blockEntry blockWidth blockResiduals joined footer numBytes blockSize blockSizes saving exponentOf lastReached powerBounds reaches inF32 nearest opened openBody openBitpacked openLinear openBlockwise readWidth readFields readBlocks bytesNum lastFields ending strict openedUnder rowIn placeIn columnFits rowFits fits packedOf valueIn listing openedHere listed headLine named namedLine decimal decimalIn rowLine rowTexts comparison compared pairLines pairLine readRun decoded lookedUp allRead rowsPassing
+unfolding answer lineOf upwards downwards times spell spellIn scan readVarint width bitLength bitsIn packed bytesOf rowsBits bitsOf numOf unpack statsOf reduce foldFrom gcd euclid spellHead readHead lineAt trained rising height slopeOf nearer residuals residualsFrom spellLine written known chosen sizeOf body bitpacked linear linearLine linearWidth deviations blockwise blocks blocksIn blockArea blockEntry blockWidth blockResiduals joined footer numBytes blockSize blockSizes saving exponentOf lastReached powerBounds reaches inF32 nearest opened openBody openBitpacked openLinear openBlockwise readWidth readFields readBlocks bytesNum lastFields ending strict underSheet rowIn placeIn columnFits rowFits fits packedOf valueIn listing openedHere listed headLine named namedLine decimal decimalIn rowLine rowTexts comparison compared pairLines pairLine readRun decoded lookedUp allRead rowsPassing
 cases-hold = refl

@@ -17,7 +17,7 @@ use Rattle.format.specs.Word.{AllBelow}
 use Rattle.format.specs.Bodies.{blockCount, columnBy}
 use Rattle.format.specs.Writing.{written}
 use Rattle.format.specs.Opening.{Loaded, opened}
-use Rattle.format.specs.Sheets.{strict, openedUnder}
+use Rattle.format.specs.Sheets.{strict, underSheet, openedUnder}
 use Rattle.format.specs.Lookup.{lookedUp, within}
 use Rattle.format.specs.Demands.{Returns, Accepts, Demand2, GivesBack, answered}
 use Rattle.format.proofs.Outcomes.{value-same}
@@ -56,7 +56,7 @@ written-shortest vs cs bytes table room each e enough o opens =
 pub written-passes : (vs cs bytes table : List ℕ) (room : ℕ) → AllBelow (2 ^ 64) vs → written vs cs room ≡ value bytes → 4 * blockCount (length vs) ≤ length table
     → (o : Loaded) → opened bytes (length table / 4) ≡ value o
     → (openedUnder 1 bytes (length table / 4) ≡ value o) × (openedUnder 2 bytes (length table / 4) ≡ value o)
-unfolding openedUnder
+unfolding underSheet
 written-passes vs cs bytes table room each e enough o opens =
     let w = written-as vs cs bytes room e in
     let back = any-codec (w .codec) (w .known) vs each (w .few) (w .applies) in

@@ -1,5 +1,6 @@
 -- Demand 3: rows' bits lie inside the area and apart, and a row's answer depends on its own bits and on all of them.
 --     rows-inside, rows-apart, rows-tell, demand3
+--     rows-told                                          the same of two openings that are one, wherever else the bytes differ
 -- Assumes nothing.
 use Prim.Native.Nat.{ℕ, _/_, _≤_, _<_}
 use mathlib.Core.Path.{_≡_, refl, sym, ap, _∙_, subst}
@@ -13,7 +14,7 @@ use Rattle.format.specs.Reading.{packedOf, valueIn, blockAt}
 use Rattle.format.specs.Demands.{Owns, Inside, Apart, SameBits, answered, Differ, RowsTell, Tell, Demand3}
 use Rattle.format.proofs.Lists.{below-or}
 use Rattle.format.proofs.Laid.{opened-laid}
-use Rattle.format.proofs.Elsewhere.{opened-same}
+use Rattle.format.proofs.Elsewhere.{opened-same, alike-fields}
 use Rattle.format.proofs.Rows.{answer-is, packed-same, bits-same, packed-small, value-tells}
 
 -- ---- where rows' bits lie
@@ -64,15 +65,21 @@ module _ (s t table other : List ℕ) (o : Loaded) (so : opened s (length table 
       (laid .head .step) (packed-small o s r lawful) (packed-small o t r lawful)
       (λ e. differs (bits-same o s t len r e)))
 
-pub rows-tell : Tell
-rows-tell s t table other o p so tp a =
-    let same : o ≡ p = opened-same s t (length table / 4) (length other / 4) o p so tp a in
+-- two openings that are one tell rows apart by their bits
+pub rows-told : (s t table other : List ℕ) (o p : Loaded) → opened s (length table / 4) ≡ value o → opened t (length other / 4) ≡ value p
+    → length s ≡ length t → o ≡ p → RowsTell s t table other o p
+rows-told s t table other o p so tp long same =
     let to : opened t (length other / 4) ≡ value o = tp ∙ ap (λ (q : Loaded). value q) (sym same) in
     subst (λ (q : Loaded). RowsTell s t table other o q) same (record {
       same = refl;
-      agree = λ (r : ℕ) (h : r < o .column .rows). bits-agree s t table other o so to (a .long) r h;
-      differ = λ (r : ℕ) (h : r < o .column .rows). bits-differ s t table other o so to (a .long) r h;
+      agree = λ (r : ℕ) (h : r < o .column .rows). bits-agree s t table other o so to long r h;
+      differ = λ (r : ℕ) (h : r < o .column .rows). bits-differ s t table other o so to long r h;
     })
+
+pub rows-tell : Tell
+rows-tell s t table other o p so tp a =
+    rows-told s t table other o p so tp (a .long)
+    (opened-same s t (length table / 4) (length other / 4) o p so tp (alike-fields s t (length table / 4) o so a))
 
 pub demand3 : Demand3
 demand3 = (rows-inside, rows-apart, rows-tell)

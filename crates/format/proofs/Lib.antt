@@ -24,11 +24,14 @@ pub mod Heads
 pub mod Tables
 pub mod Openings
 pub mod Laid
+pub mod Parts
 pub mod Elsewhere
 pub mod Rows
 pub mod Runs
+pub mod Owning
 pub mod Lookups
 pub mod Sheets
+pub mod Replays
 -- columns of other kinds
 pub mod Mappings
 pub mod FloatOrder
@@ -45,13 +48,15 @@ pub mod Linear
 pub mod WrittenBlocks
 pub mod BlockBytes
 pub mod LastBlocks
-pub mod Parts
+pub mod SheetParts
 pub mod Blockwise
 pub mod WrittenBytes
 -- the demands, and lengths
 pub mod Demand2
 pub mod Demand3
+pub mod Checks
 pub mod TypedDemands
+pub mod Blame
 pub mod Example
 pub mod Lengths
 pub mod MostBytes
@@ -62,3 +67,4 @@ pub mod RunCases
 pub mod LongCases
 pub mod Cases
 pub mod TypedCases
+pub mod PartCases

@@ -1,53 +1,157 @@
--- What sheet 2 accepts consists of its parts, one after another: every byte belongs to just one.
---     spelled-stands, head-stands, fields-stand, blocks-stand      fields that were read and have no longer spelling stand in their shortest one
---     two-parted                                                   the theorem
+-- The parts of a column that opens: they follow one another over all its bytes, and each byte is in just one.
+--     endFrom, consecutive, end-append, end-late      where parts of some names end
+--     part-skip, part-found                           finding the part of an offset
+--     varint-whole                                    a varint that was read in the first bytes of some is read in all of them
+--     Marks, opened-marks                             where the parts of a column that opens end
+--     all-parted
 -- Assumes nothing.
-use mathlib.Core.Path.{_≡_, refl, sym, ap, ap₂, _∙_, subst}
+use Prim.Native.Nat.{ℕ, zero, suc, _+_, _-_, _*_, _^_, _≤_, _<_, min}
+use mathlib.Core.Path.{_≡_, refl, sym, ap, _∙_, subst}
 use mathlib.Core.Bool.{Bool, true, false}
-use mathlib.Core.Option.{Option, none, some}
-use mathlib.Core.List.{List, [], _∷_, _++_, append-assoc, append-nil}
-use Prim.Native.Nat.{ℕ, zero, suc, _+_, _-_, _*_, _%_, _^_, _≤_, min}
-use native.Mathlib.Numerals.{add-one}
+use mathlib.Core.Logic.{⊎-elim}
+use mathlib.Core.Option.{Option, some}
+use mathlib.Core.List.{List, [], _∷_, _++_}
 use native.Mathlib.Omega.{arith}
-use lib.Dec.{ltb}
-use lib.ListN.{length, take, drop, take-append-drop, length-take, drop-of-length-le}
-use lib.Seq.{drop-cons, drop-append-le, drop-drop}
-use borrow.Author.Tests.{ltb-false}
+use lib.Dec.{ltb, leb}
+use lib.ListN.{length, take, drop, length-take, take-append-drop}
+use lib.Seq.{drop-append-le, take-length}
+use borrow.Author.Tests.{lt-ltb, le-ltb, le-leb, lt-leb}
+use Rattle.format.specs.declared.Codec.the-variants.{Bitpacked, Linear, Blockwise}
 use Rattle.format.specs.declared.Column.{Column}
+use Rattle.format.specs.declared.Field.{Field}
 use Rattle.format.specs.declared.Fields.{Fields}
 use Rattle.format.specs.declared.Head.{Head}
-use Rattle.format.specs.declared.Spelling.{Spelling}
-use Rattle.format.specs.declared.Spelling.the-variants.{Shortest, Longer}
+use Rattle.format.specs.declared.PartName.{PartName}
+use Rattle.format.specs.declared.PartName.the-variants.{Code, Minimum, Gcd, Count, Rows, Slope, Intercept, Width, Area, Behind, BlockSlope, BlockIntercept, BlockWidth, Spare, FooterLength}
+use Rattle.format.specs.declared.Part.{Part}
 use Rattle.format.specs.Outcome.{Outcome.value, pick}
+use Rattle.format.specs.Varint.{Scan, Scan.none, Scan.found, after, scan, taken, readVarint}
 use Rattle.format.specs.Word.{bytesFor}
-use Rattle.format.specs.Varint.{spell, firstOf, readVarint}
 use Rattle.format.specs.Stats.{readHead}
-use Rattle.format.specs.Bodies.{blockCount, joined}
-use Rattle.format.specs.Opening.{Loaded, Table, readWidth, readFields, readBlocks, opened}
-use Rattle.format.specs.Sheets.{lower, longer, between, overfull, Ending, lastFields, ending, offending, clean, strict, openedUnder, entriesOf, partsOf}
+use Rattle.format.specs.Bodies.{blockCount}
+use Rattle.format.specs.Opening.{Loaded, Table, opened, readFields, readWidth, readBlocks}
+use Rattle.format.specs.Parts.{headNames, namesBefore, blockNames, namesFooter, names, shapeOf, spelledIn, footerAt, behindEnd, extent, spelled, partHere, partEnd, partsFrom, partsOf, partIn, partAt}
+use Rattle.format.specs.Blame.{Consecutive, holds, holding, Parted, AllParted}
+use Rattle.format.proofs.Lists.{below-or}
 use Rattle.format.proofs.Outcomes.{not-value, value-same, by-step, by-demand}
-use Rattle.format.proofs.Varints.{spelled-stands}
-use Rattle.format.proofs.LineFields.{width-read}
-use Rattle.format.proofs.Openings.{Begun, OpensBitpacked, OpensLinear, OpensBlockwise, bitpackedOf, linearOf, blockwiseOf, footerEnd, footerStart, by-opening}
-use Rattle.format.proofs.WrittenBlocks.{joined-append}
-use Rattle.format.proofs.Sheets.{by-unit}
+use Rattle.format.proofs.Varints.{varint-read, not-found}
+use Rattle.format.proofs.LineFields.{width-read, fields-read}
+use Rattle.format.proofs.Heads.{head-read}
+use Rattle.format.proofs.Openings.{OpensBitpacked, OpensLinear, OpensBlockwise, bitpackedOf, linearOf, blockwiseOf, footerEnd, footerStart, by-opening}
+use Rattle.format.proofs.Laid.{opened-laid}
 
--- ---- fields without a longer spelling
+-- ---- where parts of some names end
 
--- the bytes of some parts, one after another
-abbrev whole : List (List ℕ) → List ℕ
-whole parts = joined (λ (part : List ℕ). part) parts
+unfoldable pub endFrom : (s : List ℕ) → Column → (at : ℕ) → List PartName → ℕ
+endFrom s col at [] = at
+endFrom s col at (n ∷ ns) = endFrom s col (partEnd (partHere s col n at)) ns
 
--- no longer spelling among some is none among each
-first-shortest : (p q : Spelling) → firstOf p q ≡ Shortest → (p ≡ Shortest) × (q ≡ Shortest)
-first-shortest Shortest q e = (refl, e)
-first-shortest (Longer offset) q e = absurd (let z : _≡_ {A = ℕ} 0 1 = cc in omega arith)
+module _ (s : List ℕ) (col : Column) where
+  -- parts follow one another by their making
+  pub consecutive : (at : ℕ) (ns : List PartName) → Consecutive at (partsFrom s col at ns) (endFrom s col at ns)
+  unfolding partsFrom endFrom
+  consecutive at [] = refl
+  consecutive at (n ∷ ns) = (refl, consecutive (partEnd (partHere s col n at)) ns)
 
--- a head
-head-stands : (s : List ℕ) (h : Head) → readHead s ≡ value h → h .spelling ≡ Shortest
-    → drop 1 s ≡ spell (h .minimum) ++ (spell (h .gcd) ++ (spell (h .count) ++ (spell (h .rows) ++ drop (h .next) s)))
-unfolding readHead
-head-stands s h e short =
+  pub end-append : (at : ℕ) (ns ms : List PartName) → endFrom s col at (ns ++ ms) ≡ endFrom s col (endFrom s col at ns) ms
+  unfolding endFrom
+  end-append at [] ms = refl
+  end-append at (n ∷ ns) ms = end-append (partEnd (partHere s col n at)) ns ms
+
+  -- they end no earlier than they begin
+  pub end-late : (at : ℕ) (ns : List PartName) → at ≤ endFrom s col at ns
+  unfolding endFrom
+  end-late at [] = omega arith
+  end-late at (n ∷ ns) = omega (arith, end-late (partEnd (partHere s col n at)) ns)
+
+  -- one part, and those behind it
+  end-step : (at next end : ℕ) (n : PartName) (ns : List PartName) → partEnd (partHere s col n at) ≡ next → endFrom s col next ns ≡ end → endFrom s col at (n ∷ ns) ≡ end
+  unfolding endFrom
+  end-step at next end n ns here rest = ap (λ (k : ℕ). endFrom s col k ns) here ∙ rest
+
+  end-none : (at : ℕ) → endFrom s col at [] ≡ at
+  unfolding endFrom
+  end-none at = refl
+
+  -- a part whose bytes are there ends behind them
+  part-to : (n : PartName) (at next : ℕ) → extent s col (shapeOf n) at ≡ next - at → at ≤ next → next ≤ length s → partEnd (partHere s col n at) ≡ next
+  part-to n at next long late fit = omega arith
+
+  -- so does a varint that was read
+  varint-to : (n : PartName) (at : ℕ) (f : Field) → extent s col (shapeOf n) at ≡ spelledIn at (readVarint s at) → readVarint s at ≡ value f → partEnd (partHere s col n at) ≡ f .next
+  varint-to n at f long e =
+      let r = varint-read s at f e in
+      part-to n at (f .next) (long ∙ ap (spelledIn at) e) (omega (arith, r .some)) (r .within)
+
+  -- ---- finding the part of an offset
+
+  -- parts that end before it are passed over
+  pub part-skip : (at : ℕ) (ns ms : List PartName) (i : ℕ) → endFrom s col at ns ≤ i → partIn (partsFrom s col at (ns ++ ms)) i ≡ partIn (partsFrom s col (endFrom s col at ns) ms) i
+  unfolding partsFrom partIn endFrom
+  part-skip at [] ms i h = refl
+  part-skip at (n ∷ ns) ms i h =
+      let p = partHere s col n at in
+      rw (le-ltb i (partEnd p) (omega (arith, end-late (partEnd p) ns))) (part-skip (partEnd p) ns ms i h)
+
+  -- the first part is taken where it ends behind it
+  part-here : (at : ℕ) (n : PartName) (ns : List PartName) (i : ℕ) → i < partEnd (partHere s col n at) → partIn (partsFrom s col at (n ∷ ns)) i ≡ some (partHere s col n at)
+  unfolding partsFrom partIn
+  part-here at n ns i h = rw (lt-ltb i (partEnd (partHere s col n at)) h)
+
+  -- no part that begins behind a byte holds it
+  none-later : (at : ℕ) (ns : List PartName) (i : ℕ) → i < at → holding (partsFrom s col at ns) i ≡ []
+  unfolding partsFrom holding
+  none-later at [] i h = refl
+  none-later at (n ∷ ns) i h = rw (lt-leb at i h) (none-later (partEnd (partHere s col n at)) ns i (omega arith))
+
+  -- a byte before the end is held by just one part, the one that is found
+  pub part-found : (at : ℕ) (ns : List PartName) (i : ℕ) → at ≤ i → i < endFrom s col at ns
+      → (p : Part) × (partIn (partsFrom s col at ns) i ≡ some p) × (holding (partsFrom s col at ns) i ≡ p ∷ [])
+  unfolding partsFrom partIn holding endFrom
+  part-found at [] i low high = absurd (omega arith)
+  part-found at (n ∷ ns) i low high =
+      let p = partHere s col n at in
+      ⊎-elim
+      (λ (inside : i < partEnd p).
+      (p, rw (lt-ltb i (partEnd p) inside), rw (le-leb at i low, lt-ltb i (partEnd p) inside, none-later (partEnd p) ns i inside)))
+      (λ (behind : partEnd p ≤ i).
+      rw (le-ltb i (partEnd p) behind, le-leb at i low) (part-found (partEnd p) ns i behind high))
+      (below-or i (partEnd p))
+
+-- ---- varints in the first bytes
+
+-- a varint stands at the front of some bytes whatever follows
+scan-more : (k : ℕ) (u w : List ℕ) (v n : ℕ) → scan k u ≡ found v n → scan k (u ++ w) ≡ found v n
+unfolding scan
+scan-more zero u w v n e = absurd (not-found e)
+scan-more (suc k) [] w v n e = absurd (not-found e)
+scan-more (suc k) (b ∷ u) w v n e = go (leb 128 b) (scan k u) refl e (λ (x m : ℕ) (is : scan k u ≡ found x m). scan-more k u w x m is)
+  where
+    go : (t : Bool) (r : Scan) → scan k u ≡ r → pick t (found (b - 128) 1) (after b r) ≡ found v n
+        → ((x m : ℕ) → scan k u ≡ found x m → scan k (u ++ w) ≡ found x m) → pick t (found (b - 128) 1) (after b (scan k (u ++ w))) ≡ found v n
+    go true r is e ih = e
+    go false none is e ih = absurd (not-found e)
+    go false (found x m) is e ih = rw (ih x m is) e
+
+-- so one that was read in the first bytes of some is read in all of them
+pub varint-whole : (s : List ℕ) (n at : ℕ) (f : Field) → readVarint (take n s) at ≡ value f → readVarint s at ≡ value f
+unfolding readVarint
+varint-whole s n at f e =
+    let r = varint-read (take n s) at f e in
+    let whole : drop at s ≡ drop at (take n s) ++ drop n s =
+    ap (drop at) (sym (take-append-drop n s)) ∙ drop-append-le at (take n s) (drop n s) (omega (arith, r .some, r .within)) in
+    go (scan 10 (drop at (take n s))) refl e whole
+  where
+    go : (q : Scan) → scan 10 (drop at (take n s)) ≡ q → taken at q ≡ value f → drop at s ≡ drop at (take n s) ++ drop n s → taken at (scan 10 (drop at s)) ≡ value f
+    go none is e whole = absurd (not-value e)
+    go (found v m) is e whole = rw (whole, scan-more 10 (drop at (take n s)) (drop n s) v m is) e
+
+-- ---- where the parts of a column that opens end
+
+-- the code byte and a head that was read
+head-end : (s : List ℕ) (col : Column) (h : Head) → readHead s ≡ value h → endFrom s col 0 headNames ≡ h .next
+unfolding readHead extent
+head-end s col h e =
     by-step (readVarint s 1) _ e λ m at-m e.
     by-step (readVarint s (m .next)) _ e λ g at-g e.
     by-demand (ltb 0 (g .value)) 7 [] _ e λ step e.
@@ -55,159 +159,141 @@ head-stands s h e short =
     by-demand (ltb (m .value + c .value * g .value) (2 ^ 64)) 8 [] _ e λ bounds e.
     by-step (readVarint s (c .next)) _ e λ r at-r e.
     by-demand (ltb (r .value) (2 ^ 32)) 8 [] _ e λ few e.
-    let same = value-same e in
-    let one = first-shortest (m .spelling) _ (ap (λ (k : Head). k .spelling) same ∙ short) in
-    let two = first-shortest (g .spelling) _ (one .1) in
-    let three = first-shortest (c .spelling) (r .spelling) (two .1) in
-    subst (λ (k : Head). drop 1 s ≡ spell (k .minimum) ++ (spell (k .gcd) ++ (spell (k .count) ++ (spell (k .rows) ++ drop (k .next) s)))) same
-    (spelled-stands s 1 m at-m (one .0)
-    ∙ ap (λ (l : List ℕ). spell (m .value) ++ l)
-    (spelled-stands s (m .next) g at-g (two .0)
-    ∙ ap (λ (l : List ℕ). spell (g .value) ++ l)
-    (spelled-stands s (g .next) c at-c (three .0)
-    ∙ ap (λ (l : List ℕ). spell (c .value) ++ l) (spelled-stands s (c .next) r at-r (three .1)))))
+    let next : r .next ≡ h .next = ap (λ (k : Head). k .next) (value-same e) in
+    let some = varint-read s 1 m at-m in
+    end-step s col 0 1 (h .next) Code (Minimum ∷ Gcd ∷ Count ∷ Rows ∷ []) (part-to s col Code 0 1 refl (omega arith) (omega (arith, some .some, some .within)))
+    (end-step s col 1 (m .next) (h .next) Minimum (Gcd ∷ Count ∷ Rows ∷ []) (varint-to s col Minimum 1 m refl at-m)
+    (end-step s col (m .next) (g .next) (h .next) Gcd (Count ∷ Rows ∷ []) (varint-to s col Gcd (m .next) g refl at-g)
+    (end-step s col (g .next) (c .next) (h .next) Count (Rows ∷ []) (varint-to s col Count (g .next) c refl at-c)
+    (end-step s col (c .next) (r .next) (h .next) Rows [] (varint-to s col Rows (c .next) r refl at-r)
+    (end-none s col (r .next) ∙ next)))))
 
--- a line and its width
-fields-stand : (s : List ℕ) (at : ℕ) (f : Fields) → readFields s at ≡ value f → f .spelling ≡ Shortest
-    → drop at s ≡ spell (f .line .slope) ++ (spell (f .line .intercept) ++ (f .bits ∷ drop (f .next) s))
-unfolding readFields
-fields-stand s at f e short =
-    by-step (readVarint s at) _ e λ m at-m e.
-    by-step (readVarint s (m .next)) _ e λ b at-b e.
-    by-step (readWidth s (b .next)) _ e λ w at-w e.
-    let same = value-same e in
-    let one = first-shortest (m .spelling) (b .spelling) (ap (λ (g : Fields). g .spelling) same ∙ short) in
-    let bits = width-read s (b .next) w at-w in
-    let byte : drop (b .next) s ≡ w ∷ drop (b .next + 1) s = rw add-one (drop-cons s (b .next) 0 (bits .within) ∙ ap (λ (x : ℕ). x ∷ drop (suc (b .next)) s) (bits .byte)) in
-    subst (λ (g : Fields). drop at s ≡ spell (g .line .slope) ++ (spell (g .line .intercept) ++ (g .bits ∷ drop (g .next) s))) same
-    (spelled-stands s at m at-m (one .0)
-    ∙ ap (λ (l : List ℕ). spell (m .value) ++ l)
-    (spelled-stands s (m .next) b at-b (one .1) ∙ ap (λ (l : List ℕ). spell (b .value) ++ l) byte))
+-- a line and its width that were read, under three names
+module _ (s : List ℕ) (col : Column) (a b w : PartName) (long-a : (at : ℕ) → extent s col (shapeOf a) at ≡ spelledIn at (readVarint s at))
+    (long-b : (at : ℕ) → extent s col (shapeOf b) at ≡ spelledIn at (readVarint s at)) (long-w : (at : ℕ) → extent s col (shapeOf w) at ≡ 1) where
+  fields-end : (n at : ℕ) (f : Fields) → n ≤ length s → readFields (take n s) at ≡ value f → (end : ℕ) (ns : List PartName) → endFrom s col (f .next) ns ≡ end
+      → endFrom s col at (a ∷ b ∷ w ∷ ns) ≡ end
+  unfolding readFields
+  fields-end n at f fit e end ns rest =
+      by-step (readVarint (take n s) at) _ e λ m at-m e.
+      by-step (readVarint (take n s) (m .next)) _ e λ c at-c e.
+      by-step (readWidth (take n s) (c .next)) _ e λ x at-x e.
+      let next : c .next + 1 ≡ f .next = ap (λ (g : Fields). g .next) (value-same e) in
+      let inside : c .next < length s = omega (arith, width-read (take n s) (c .next) x at-x .within, length-take n s) in
+      end-step s col at (m .next) end a (b ∷ w ∷ ns) (varint-to s col a at m (long-a at) (varint-whole s n at m at-m))
+      (end-step s col (m .next) (c .next) end b (w ∷ ns) (varint-to s col b (m .next) c (long-b (m .next)) (varint-whole s n (m .next) c at-c))
+      (end-step s col (c .next) (f .next) end w ns (part-to s col w (c .next) (f .next) (long-w (c .next) ∙ omega arith) (omega arith) (omega arith)) rest))
 
--- the fields of k blocks, up to the offset behind the last one's
-blocks-stand : (k : ℕ) (s : List ℕ) (at start rows bits : ℕ) (t : Table) (f : ℕ × ℕ) → readBlocks k s at start rows ≡ value t → t .spelling ≡ Shortest
-    → lastFields k s bits at ≡ value f → drop at s ≡ whole (entriesOf k (t .numbers)) ++ drop (f .1) s
-unfolding readBlocks lastFields entriesOf joined
-blocks-stand zero s at start rows bits t f e short last = ap (λ (g : ℕ × ℕ). drop (g .1) s) (value-same last)
-blocks-stand (suc k) s at start rows bits t f e short last =
-    by-step (readFields s at) _ e λ g at-g e.
-    by-step (readBlocks k s (g .next) (start + bytesFor (g .bits * min rows 512)) (rows - 512)) _ e λ u at-u e.
-    let same = value-same e in
-    let one = first-shortest (g .spelling) (u .spelling) (ap (λ (x : Table). x .spelling) same ∙ short) in
-    let rest : lastFields k s (g .bits) (g .next) ≡ value f = rw at-g at last in
-    let later = whole (entriesOf k (u .numbers)) in
-    let a = spell (g .line .slope) in
-    let b = spell (g .line .intercept) in
-    let here : drop at s ≡ (a ++ (b ++ (g .bits ∷ later))) ++ drop (f .1) s =
-    fields-stand s at g at-g (one .0)
-    ∙ ap (λ (l : List ℕ). a ++ (b ++ (g .bits ∷ l))) (blocks-stand k s (g .next) _ (rows - 512) (g .bits) u f at-u (one .1) rest)
-    ∙ simp append-assoc in
-    subst (λ (x : Table). drop at s ≡ whole (entriesOf (suc k) (x .numbers)) ++ drop (f .1) s) same here
+-- the fields of blocks that were read before the last four bytes, what is left over, and the footer's length
+blocks-end : (k : ℕ) (s : List ℕ) (col : Column) (b at start rows : ℕ) (t : Table) → 4 ≤ length s → at ≤ length s - 4
+    → readBlocks k (take (length s - 4) s) at start rows ≡ value t → endFrom s col at (blockNames b k ++ (Spare ∷ FooterLength ∷ [])) ≡ length s
+unfolding readBlocks blockNames extent
+blocks-end zero s col b at start rows t four late e =
+    end-step s col at (length s - 4) (length s) Spare (FooterLength ∷ []) (part-to s col Spare at (length s - 4) refl late (omega arith))
+    (end-step s col (length s - 4) (length s) (length s) FooterLength [] (part-to s col FooterLength (length s - 4) (length s) (omega arith) (omega arith) (omega arith))
+    (end-none s col (length s)))
+blocks-end (suc k) s col b at start rows t four late e =
+    by-step (readFields (take (length s - 4) s) at) _ e λ f at-f e.
+    by-step (readBlocks k (take (length s - 4) s) (f .next) (start + bytesFor (f .bits * min rows 512)) (rows - 512)) _ e λ u at-u e.
+    fields-end s col (BlockSlope b) (BlockIntercept b) (BlockWidth b) (λ (i : ℕ). refl) (λ (i : ℕ). refl) (λ (i : ℕ). refl)
+    (length s - 4) at f (omega arith) at-f (length s) (blockNames (suc b) k ++ (Spare ∷ FooterLength ∷ []))
+    (blocks-end k s col (suc b) (f .next) (start + bytesFor (f .bits * min rows 512)) (rows - 512) u four
+    (omega (arith, fields-read (take (length s - 4) s) at f at-f .within, length-take (length s - 4) s)) at-u)
 
--- ---- what offends nothing
+-- where the area begins and ends, where the bytes behind it end, and that the footer ends with the last byte
+pub record Marks (s : List ℕ) (col : Column) : Type 0 where
+  pub before : endFrom s col 0 (namesBefore (col .codec)) ≡ col .start
+  pub area : col .start + col .size ≤ behindEnd (col .codec) s
+  pub behind : behindEnd (col .codec) s ≤ length s
+  pub footer : endFrom s col (behindEnd (col .codec) s) (namesFooter (col .codec) (col .rows)) ≡ length s
 
-clean-none : (a : Option ℕ) → clean a ≡ value tt → a ≡ none
-clean-none none e = refl
-clean-none (some offset) e = absurd (not-value e)
-
-lower-none : (a b : Option ℕ) → lower a b ≡ none → (a ≡ none) × (b ≡ none)
-lower-none none b e = (refl, e)
-lower-none (some a) none e = absurd (let z : _≡_ {A = ℕ} 0 1 = cc in omega arith)
-lower-none (some a) (some b) e = absurd (let z : _≡_ {A = ℕ} 0 1 = cc in omega arith)
-
-longer-none : (p : Spelling) → longer p ≡ none → p ≡ Shortest
-longer-none Shortest e = refl
-longer-none (Longer offset) e = absurd (let z : _≡_ {A = ℕ} 0 1 = cc in omega arith)
-
-between-empty : (from to : ℕ) → between from to ≡ none → to ≤ from
-between-empty from to e = go (ltb from to) refl e
+pub opened-marks : (s : List ℕ) (room : ℕ) (o : Loaded) → opened s room ≡ value o → Marks s (o .column)
+unfolding extent
+opened-marks s room = by-opening (λ (o : Loaded). Marks s (o .column)) s room ofBitpacked ofLinear ofBlockwise
   where
-    go : (t : Bool) → ltb from to ≡ t → pick t (some from) none ≡ none → to ≤ from
-    go true test e = absurd (let z : _≡_ {A = ℕ} 0 1 = cc in omega arith)
-    go false test e = ltb-false from to test
+    ofBitpacked : (h : Head) → OpensBitpacked s h → Marks s (bitpackedOf h .column)
+    ofBitpacked h f = record {
+      before = head-end s (bitpackedOf h .column) h (f .begun .head);
+      area = f .area;
+      behind = omega arith;
+      footer = end-none s (bitpackedOf h .column) (length s);
+    }
 
--- a column without an offending byte has no longer spelling, and no bytes between its area and the next part, nor behind that
-record Faultless (col : Column) (p : Spelling) (e : Ending) : Type 0 where
-  spelled : p ≡ Shortest
-  resumed : e .resumes ≤ col .start + col .size
-  later : e .later ≡ none
+    ofLinear : (h : Head) (g : Fields) → OpensLinear s h g → Marks s (linearOf h g .column)
+    ofLinear h g f =
+        let col = linearOf h g .column in
+        let all : take (length s) s ≡ s = take-length s in
+        let line : endFrom s col (h .next) (Slope ∷ Intercept ∷ Width ∷ []) ≡ g .next =
+        fields-end s col Slope Intercept Width (λ (i : ℕ). refl) (λ (i : ℕ). refl) (λ (i : ℕ). refl) (length s) (h .next) g (omega arith)
+        (ap (λ (u : List ℕ). readFields u (h .next)) all ∙ f .fields) (g .next) [] (end-none s col (g .next)) in
+        record {
+          before = end-append s col 0 headNames (Slope ∷ Intercept ∷ Width ∷ []) ∙ ap (λ (k : ℕ). endFrom s col k (Slope ∷ Intercept ∷ Width ∷ [])) (head-end s col h (f .begun .head)) ∙ line;
+          area = f .area;
+          behind = omega arith;
+          footer = end-none s col (length s);
+        }
 
-faultless : (s : List ℕ) (col : Column) (p : Spelling) (e : Ending) → clean (offending s col p e) ≡ value tt → Faultless col p e
-faultless s col p e met =
-    let end = col .start + col .size in
-    let filled = overfull s (end - 1) (e .bits * col .rows % 8) in
-    let gap = between end (e .resumes) in
-    let one = lower-none (longer p) (lower filled (lower gap (e .later))) (clean-none _ met) in
-    let two = lower-none filled (lower gap (e .later)) (one .1) in
-    let three = lower-none gap (e .later) (two .1) in
-    record { spelled = longer-none p (one .0); resumed = between-empty end (e .resumes) (three .0); later = three .1 }
+    ofBlockwise : (h : Head) (t : Table) → OpensBlockwise s h room t → Marks s (blockwiseOf h t .column)
+    ofBlockwise h t f =
+        let col = blockwiseOf h t .column in
+        record {
+          before = head-end s col h (f .begun .head);
+          area = f .area;
+          behind = omega arith;
+          footer = blocks-end (blockCount (h .rows)) s col 0 (footerStart s) 0 (h .rows) t (omega (arith, f .four)) (omega arith) (f .blocks);
+        }
 
--- ---- the parts
+-- ---- all of it
 
--- code byte and head stand at the front
-begun-stands : (s : List ℕ) (code : ℕ) (h : Head) → Begun s code h → h .spelling ≡ Shortest
-    → s ≡ code ∷ (spell (h .minimum) ++ (spell (h .gcd) ++ (spell (h .count) ++ (spell (h .rows) ++ drop (h .next) s))))
-begun-stands s code h b short = drop-cons s 0 0 (b .some) ∙ ap₂ (λ (x : ℕ) (l : List ℕ). x ∷ l) (b .byte) (head-stands s h (b .head) short)
+module _ (s : List ℕ) (col : Column) (m : Marks s col) where
+  area-to : partEnd (partHere s col Area (col .start)) ≡ col .start + col .size
+  unfolding extent
+  area-to = part-to s col Area (col .start) (col .start + col .size) (omega arith) (omega arith) (omega (arith, m .area, m .behind))
 
--- an area stands before what comes behind it
-area-stands : (s : List ℕ) (at size : ℕ) → drop at s ≡ take size (drop at s) ++ drop (at + size) s
-area-stands s at size = sym (take-append-drop size (drop at s)) ∙ ap (λ (l : List ℕ). take size (drop at s) ++ l) (drop-drop size at s)
+  behind-to : partEnd (partHere s col Behind (col .start + col .size)) ≡ behindEnd (col .codec) s
+  unfolding extent
+  behind-to = part-to s col Behind (col .start + col .size) (behindEnd (col .codec) s) refl (m .area) (m .behind)
 
--- nothing stands behind the end
-area-last : (s : List ℕ) (at size : ℕ) → length s ≤ at + size → drop at s ≡ take size (drop at s) ++ []
-area-last s at size end = area-stands s at size ∙ ap (λ (l : List ℕ). take size (drop at s) ++ l) (drop-of-length-le s end)
+  parts-end : endFrom s col 0 (names (col .codec) (col .rows)) ≡ length s
+  parts-end =
+      let rest : endFrom s col (col .start) (Area ∷ Behind ∷ namesFooter (col .codec) (col .rows)) ≡ length s =
+      end-step s col (col .start) (col .start + col .size) (length s) Area (Behind ∷ namesFooter (col .codec) (col .rows)) area-to
+      (end-step s col (col .start + col .size) (behindEnd (col .codec) s) (length s) Behind (namesFooter (col .codec) (col .rows)) behind-to (m .footer)) in
+      end-append s col 0 (namesBefore (col .codec)) (Area ∷ Behind ∷ namesFooter (col .codec) (col .rows))
+      ∙ ap (λ (k : ℕ). endFrom s col k (Area ∷ Behind ∷ namesFooter (col .codec) (col .rows))) (m .before) ∙ rest
 
-bitpacked-parted : (s : List ℕ) (h : Head) → OpensBitpacked s h → strict s (bitpackedOf h .column) (bitpackedOf h .spelling) ≡ value tt → s ≡ whole (partsOf s (bitpackedOf h))
-unfolding strict ending joined
-bitpacked-parted s h f met =
-    let fine = faultless s (bitpackedOf h .column) (h .spelling) _ met in
-    begun-stands s 0 h (f .begun) (fine .spelled)
-    ∙ ap (λ (l : List ℕ). 0 ∷ (spell (h .minimum) ++ (spell (h .gcd) ++ (spell (h .count) ++ (spell (h .rows) ++ l)))))
-    (area-last s (h .next) _ (fine .resumed))
+  -- a byte of the area, or behind it: the parts before the area are passed over
+  from-area : (i : ℕ) → col .start ≤ i → partAt s col i ≡ partIn (partsFrom s col (col .start) (Area ∷ Behind ∷ namesFooter (col .codec) (col .rows))) i
+  from-area i low =
+      part-skip s col 0 (namesBefore (col .codec)) (Area ∷ Behind ∷ namesFooter (col .codec) (col .rows)) i (omega (arith, m .before))
+      ∙ ap (λ (k : ℕ). partIn (partsFrom s col k (Area ∷ Behind ∷ namesFooter (col .codec) (col .rows))) i) (m .before)
 
-linear-parted : (s : List ℕ) (h : Head) (g : Fields) → OpensLinear s h g → strict s (linearOf h g .column) (linearOf h g .spelling) ≡ value tt → s ≡ whole (partsOf s (linearOf h g))
-unfolding strict ending joined
-linear-parted s h g f met =
-    let fine = faultless s (linearOf h g .column) (linearOf h g .spelling) _ met in
-    let short = first-shortest (h .spelling) (g .spelling) (fine .spelled) in
-    begun-stands s 1 h (f .begun) (short .0)
-    ∙ ap (λ (l : List ℕ). 1 ∷ (spell (h .minimum) ++ (spell (h .gcd) ++ (spell (h .count) ++ (spell (h .rows) ++ l)))))
-    (fields-stand s (h .next) g (f .fields) (short .1)
-    ∙ ap (λ (l : List ℕ). spell (g .line .slope) ++ (spell (g .line .intercept) ++ (g .bits ∷ l))) (area-last s (g .next) _ (fine .resumed)))
+  pub area-part : (i : ℕ) → col .start ≤ i → i < col .start + col .size → partAt s col i ≡ some (record { name = Area; first = col .start; bytes = col .size; value = 0 })
+  unfolding spelled
+  area-part i low high =
+      let long : partHere s col Area (col .start) .bytes ≡ col .size = omega (arith, area-to) in
+      from-area i low ∙ part-here s col (col .start) Area (Behind ∷ namesFooter (col .codec) (col .rows)) i (omega (arith, area-to))
+      ∙ ap (λ (n : ℕ). some (record { name = Area; first = col .start; bytes = n; value = 0 })) long
 
-blockwise-parted : (s : List ℕ) (h : Head) (room : ℕ) (t : Table) → OpensBlockwise s h room t → strict s (blockwiseOf h t .column) (blockwiseOf h t .spelling) ≡ value tt
-    → s ≡ whole (partsOf s (blockwiseOf h t))
-unfolding strict ending joined
-blockwise-parted s h room t f met =
-    let end = footerEnd s in
-    let start = footerStart s in
-    let area = take (t .area) (drop (h .next) s) in
-    let blocks = entriesOf (blockCount (h .rows)) (t .numbers) in
-    by-step (ending (blockwiseOf h t .column .codec) (h .count) (h .rows) s) _ met λ e there met.
-    by-step (lastFields (blockCount (h .rows)) (take end s) 0 start) _ there λ g last there.
-    let fine = rw (← value-same there) at (faultless s (blockwiseOf h t .column) (blockwiseOf h t .spelling) e met) in
-    let short = first-shortest (h .spelling) (t .spelling) (fine .spelled) in
-    let seam : h .next + t .area ≡ start = omega (arith, fine .resumed, f .area) in
-    let inside : length (take end s) ≡ end = length-take end s ∙ omega (arith, f .four) in
-    let past : length (take end s) ≤ g .1 = omega (arith, inside, between-empty (g .1) end (fine .later)) in
-    let none-left : drop (g .1) (take end s) ≡ [] = drop-of-length-le (take end s) past in
-    let footer : drop start (take end s) ≡ whole blocks = blocks-stand (blockCount (h .rows)) (take end s) start 0 (h .rows) 0 t g (f .blocks) (short .1) last ∙ rw none-left (append-nil (whole blocks)) in
-    let behind : drop start s ≡ whole blocks ++ (drop end s ++ []) =
-    ap (drop start) (sym (take-append-drop end s)) ∙ drop-append-le start (take end s) (drop end s) (omega (arith, inside)) ∙ ap (λ (l : List ℕ). l ++ drop end s) footer ∙ ap (λ (l : List ℕ). whole blocks ++ l) (sym (append-nil (drop end s))) in
-    begun-stands s 2 h (f .begun) (short .0)
-    ∙ ap (λ (l : List ℕ). 2 ∷ (spell (h .minimum) ++ (spell (h .gcd) ++ (spell (h .count) ++ (spell (h .rows) ++ l)))))
-    (area-stands s (h .next) (t .area)
-    ∙ ap (λ (l : List ℕ). area ++ l) (ap (λ (k : ℕ). drop k s) seam ∙ behind ∙ sym (joined-append (λ (part : List ℕ). part) blocks (drop end s ∷ []))))
+  pub behind-part : (i n : ℕ) → col .start + col .size + n ≡ behindEnd (col .codec) s → col .start + col .size ≤ i → i < behindEnd (col .codec) s
+      → partAt s col i ≡ some (record { name = Behind; first = col .start + col .size; bytes = n; value = 0 })
+  unfolding endFrom spelled
+  behind-part i n much low high =
+      let long : partHere s col Behind (col .start + col .size) .bytes ≡ n = omega (arith, behind-to) in
+      from-area i (omega arith)
+      ∙ part-skip s col (col .start) (Area ∷ []) (Behind ∷ namesFooter (col .codec) (col .rows)) i (omega (arith, area-to))
+      ∙ ap (λ (k : ℕ). partIn (partsFrom s col k (Behind ∷ namesFooter (col .codec) (col .rows))) i) area-to
+      ∙ part-here s col (col .start + col .size) Behind (namesFooter (col .codec) (col .rows)) i (omega (arith, behind-to))
+      ∙ ap (λ (k : ℕ). some (record { name = Behind; first = col .start + col .size; bytes = k; value = 0 })) long
 
--- under sheet 2 the bytes are the parts, one after another: each byte belongs to just one
-pub two-parted : (s : List ℕ) (room : ℕ) (o : Loaded) → openedUnder 2 s room ≡ value o → s ≡ joined (λ (part : List ℕ). part) (partsOf s o)
-unfolding openedUnder
-two-parted s room o e =
-    by-step (opened s room) _ e λ p is e.
-    by-unit (strict s (p .column) (p .spelling)) (value p) e λ met same.
-    subst (λ (x : Loaded). s ≡ whole (partsOf s x)) (value-same same)
-    (by-opening (λ (x : Loaded). strict s (x .column) (x .spelling) ≡ value tt → s ≡ whole (partsOf s x)) s room
-    (bitpacked-parted s)
-    (linear-parted s)
-    (λ (h : Head) (t : Table) (f : OpensBlockwise s h room t). blockwise-parted s h room t f)
-    p is met)
+pub all-parted : AllParted
+all-parted s room o e =
+    let col = o .column in
+    let m = opened-marks s room o e in
+    let ns = names (col .codec) (col .rows) in
+    record {
+      cover = subst (λ (end : ℕ). Consecutive 0 (partsOf s col) end) (parts-end s col m) (consecutive s col 0 ns);
+      each = λ (i : ℕ) (h : i < length s). part-found s col 0 ns i (omega arith) (omega (arith, parts-end s col m));
+      area = area-part s col m;
+      behind = behind-part s col m;
+    }

@@ -25,7 +25,7 @@ use Rattle.format.specs.Word.{bytesFor, AllBelow}
 use Rattle.format.specs.Packing.{numOf, rowsBits, bytesOf, packed}
 use Rattle.format.specs.Bodies.{blockCount}
 use Rattle.format.specs.Opening.{Loaded, Table, readFields, readBlocks, opened}
-use Rattle.format.specs.Sheets.{between, overfull, Ending, lastFields, ending, offending, clean, strict, openedUnder}
+use Rattle.format.specs.Sheets.{between, overfull, Ending, lastFields, ending, offending, clean, strict, underSheet, openedUnder}
 use Rattle.format.proofs.Lists.{below-or, all-take, all-drop}
 use Rattle.format.proofs.Outcomes.{not-value, value-same, by-step}
 use Rattle.format.proofs.Openings.{OpensBitpacked, OpensLinear, OpensBlockwise, footerEnd, footerStart, by-opening}
@@ -41,7 +41,7 @@ by-unit (refusal n also) k e next = absurd (not-value e)
 
 -- what sheet 2 accepts, sheet 1 accepts, with the same answer and table
 pub under-two : (s : List ℕ) (room : ℕ) (o : Loaded) → openedUnder 2 s room ≡ value o → openedUnder 1 s room ≡ value o
-unfolding openedUnder
+unfolding underSheet
 under-two s room o e =
     by-step (opened s room) _ e λ p is e.
     by-unit (strict s (p .column) (p .spelling)) (value p) e λ met same.
@@ -71,7 +71,7 @@ ending-there s room =
 -- what sheet 1 accepts and sheet 2 does not is refused 17
 pub refused-two : (s : List ℕ) (room : ℕ) (o : Loaded) → opened s room ≡ value o
     → (openedUnder 2 s room ≡ value o) ⊎ ((offset : ℕ) × (openedUnder 2 s room ≡ refusal 17 (offset ∷ [])))
-unfolding openedUnder strict
+unfolding underSheet strict
 refused-two s room o is =
     let e = ending-there s room o is in
     go (e .0) (e .1) (offending s (o .column) (o .spelling) (e .0)) refl

@@ -81,12 +81,16 @@ clean (some offset) = refusal 17 (offset ∷ [])
 unfoldable pub strict : (s : List ℕ) → Column → Spelling → Outcome (Unit {0})
 strict s col p = ending (col .codec) (col .count) (col .rows) s >>= (λ (e : Ending). clean (offending s col p e))
 
+-- what an opening of some bytes found, under a sheet; 18 comes before all of it
+unfoldable pub underSheet : (sheet : ℕ) (s : List ℕ) → Outcome Loaded → Outcome Loaded
+underSheet zero s o = refusal 18 []
+underSheet (suc zero) s o = o
+underSheet (suc (suc zero)) s o = o >>= (λ (l : Loaded). strict s (l .column) (l .spelling) >> value l)
+underSheet (suc (suc (suc sheet))) s o = refusal 18 []
+
 -- opening under a sheet
-unfoldable pub openedUnder : (sheet : ℕ) (s : List ℕ) (room : ℕ) → Outcome Loaded
-openedUnder zero s room = refusal 18 []
-openedUnder (suc zero) s room = opened s room
-openedUnder (suc (suc zero)) s room = opened s room >>= (λ (o : Loaded). strict s (o .column) (o .spelling) >> value o)
-openedUnder (suc (suc (suc sheet))) s room = refusal 18 []
+abbrev pub openedUnder : (sheet : ℕ) (s : List ℕ) (room : ℕ) → Outcome Loaded
+openedUnder sheet s room = underSheet sheet s (opened s room)
 
 -- ---- the parts of a column
 
@@ -102,8 +106,8 @@ bodyParts (Linear l w) blocks table area four = spell (l .slope) ∷ spell (l .i
 bodyParts Blockwise blocks table area four = area ∷ (entriesOf blocks table ++ (four ∷ []))
 
 -- all parts of an opened column in their order, each number in its shortest spelling
-abbrev pub partsOf : (s : List ℕ) → Loaded → List (List ℕ)
-partsOf s o =
+abbrev pub partBytes : (s : List ℕ) → Loaded → List (List ℕ)
+partBytes s o =
     let col = o .column in
     (codeOf (col .codec) ∷ [])
     ∷ spell (col .minimum) ∷ spell (col .gcd) ∷ spell (col .count) ∷ spell (col .rows)

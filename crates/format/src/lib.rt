@@ -2,6 +2,7 @@
 // demands on those definitions are stated in specs/Demands.antt and proved in proofs/.
 
 ghost use mathlib.Core.Path.{_≡_};
+ghost use lib.ListN.{getD};
 ghost use Rattle.format.specs.Refusals.{paper};
 ghost use Rattle.format.specs.Varint.{firstOf};
 
@@ -25,6 +26,8 @@ pub enum Refusal {
     OverLimit,
     Offending { offset: usize },
     UnknownSheet,
+    BadRecording,
+    NotForView,
 }
 
 impl Refusal {
@@ -51,6 +54,36 @@ impl Refusal {
             Refusal::OverLimit => 16,
             Refusal::Offending { offset: _ } => 17,
             Refusal::UnknownSheet => 18,
+            Refusal::BadRecording => 19,
+            Refusal::NotForView => 20,
+        }
+    }
+
+    // The value that a refusal also returns, 0 where it returns none.
+    pub fn also(self) -> u64
+        ensures { λ r. ⌜ r ≡ getD (paper self .1) 0 0 ⌝ }
+    {
+        match self {
+            Refusal::TooManyValues => 0,
+            Refusal::UnknownCodec { place } => place as u64,
+            Refusal::NoCodecApplies => 0,
+            Refusal::OutputShort { needed } => needed as u64,
+            Refusal::NotAColumn => 0,
+            Refusal::BadField { offset } => offset as u64,
+            Refusal::GcdZero => 0,
+            Refusal::OutOfRange => 0,
+            Refusal::IllegalWidth { offset } => offset as u64,
+            Refusal::AreaShort => 0,
+            Refusal::TableShort { blocks } => blocks as u64,
+            Refusal::NoSuchRow => 0,
+            Refusal::Unfit => 0,
+            Refusal::OutOfBounds { row } => row as u64,
+            Refusal::ListShort { found } => found as u64,
+            Refusal::OverLimit => 0,
+            Refusal::Offending { offset } => offset as u64,
+            Refusal::UnknownSheet => 0,
+            Refusal::BadRecording => 0,
+            Refusal::NotForView => 0,
         }
     }
 }
@@ -166,6 +199,24 @@ pub struct Range {
     pub high: u64,
 }
 
+// The header of a recording of lookups: how many records it has, from which offset on, and how many row numbers, from which on.
+pub struct Recording {
+    pub records: u32,
+    pub start: u32,
+    pub numbers: u32,
+    pub list: u32,
+}
+
+// A recorded lookup: its range of values, its rows, the place of its first row number in the list, and how many there are.
+pub struct Recorded {
+    pub low: u64,
+    pub high: u64,
+    pub first: u32,
+    pub end: u32,
+    pub place: u32,
+    pub many: u32,
+}
+
 // What the entry points answer (specs/Refusals.antt says what each case means).
 
 // Statistics of a list.
@@ -220,4 +271,66 @@ pub enum Found {
 pub enum RunRead {
     Values(usize),
     Refused(Refusal),
+}
+
+// Replaying recorded lookups: how many records were run. All agree, or the last that was run differs.
+pub enum Replayed {
+    Agree { run: u32 },
+    Differ { index: u32, run: u32 },
+    Refused(Refusal),
+}
+
+// Checking a column against a list: it is passed, or the first reason why not.
+pub enum Checked {
+    Passed,
+    Unopened(Refusal),
+    Counts { column: u32, list: usize },
+    Unequal { row: u32 },
+    Minimum,
+    Gcd,
+    Maximum,
+}
+
+// What a part of a column's bytes is: a field of the head, of Linear's line or of a block by its number; the packed area; the bytes behind it; what is left over in
+// the footer, and the footer's length.
+pub enum PartName {
+    Code,
+    Minimum,
+    Gcd,
+    Count,
+    Rows,
+    Slope,
+    Intercept,
+    Width,
+    Area,
+    Behind,
+    BlockSlope(u32),
+    BlockIntercept(u32),
+    BlockWidth(u32),
+    Spare,
+    FooterLength,
+}
+
+// How a part is spelled: a varint, one byte, the footer's length in four; or bytes that are no one number.
+pub enum Shape {
+    Varint,
+    Byte,
+    Four,
+    Area,
+    Behind,
+    Spare,
+}
+
+// A part: what it is, the offset of its first byte, how many bytes it has, and the number that they spell, 0 where they spell none.
+pub struct Part {
+    pub name: PartName,
+    pub first: usize,
+    pub bytes: usize,
+    pub value: u64,
+}
+
+// The rows that own a bit of a byte: all from the first to the last, or none.
+pub enum Owners {
+    Rows { first: u32, last: u32 },
+    NoRow,
 }

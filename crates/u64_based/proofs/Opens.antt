@@ -20,7 +20,7 @@ use Rattle.format.specs.declared.Spelling.the-variants.{Shortest}
 use Rattle.format.specs.Outcome.{Outcome, Outcome.value, Outcome.refusal, _>>=_, _>>_, stored}
 use Rattle.format.specs.Stats.{readHead}
 use Rattle.format.specs.Opening.{Loaded, Table, readBlocks, openBlockwise, openBody, opened, columnIn, tableIn}
-use Rattle.format.specs.Sheets.{strict, openedUnder}
+use Rattle.format.specs.Sheets.{strict, underSheet, openedUnder}
 use Rattle.format.proofs.Outcomes.{not-value, value-same, by-step}
 use Rattle.format.proofs.Laid.{opened-laid}
 use Rattle.format.proofs.Sheets.{under-two}
@@ -87,7 +87,7 @@ opened-tabled s room (value a) finds = go (opened s room) refl (finds a refl)
 
 -- what a sheet accepts, opening finds
 accepted : (sheet : ℕ) (s : List ℕ) (room : ℕ) (o : Loaded) → openedUnder sheet s room ≡ value o → opened s room ≡ value o
-unfolding openedUnder
+unfolding underSheet
 accepted zero s room o e = absurd (not-value e)
 accepted (suc zero) s room o e = e
 accepted (suc (suc zero)) s room o e = under-two s room o e
@@ -118,11 +118,11 @@ opened-within s room c p e =
 
 -- no sheet but 1 and 2
 pub under-none : (sheet : ℕ) (s : List ℕ) (room : ℕ) → sheet ≡ 0 → refusal 18 [] ≡ columnIn (openedUnder sheet s room)
-unfolding openedUnder
+unfolding underSheet
 under-none sheet s room e = rw e
 
 pub under-unknown : (sheet : ℕ) (s : List ℕ) (room : ℕ) → 2 < sheet → refusal 18 [] ≡ columnIn (openedUnder sheet s room)
-unfolding openedUnder
+unfolding underSheet
 under-unknown zero s room h = refl
 under-unknown (suc zero) s room h = absurd (omega arith)
 under-unknown (suc (suc zero)) s room h = absurd (omega arith)
@@ -130,7 +130,7 @@ under-unknown (suc (suc (suc sheet))) s room h = refl
 
 -- sheet 1
 pub under-one : (sheet : ℕ) (s : List ℕ) (room : ℕ) {a : Outcome (Column × Spelling)} → sheet ≡ 1 → a ≡ columnIn (opened s room) → a ≡ columnIn (openedUnder sheet s room)
-unfolding openedUnder
+unfolding underSheet
 under-one sheet s room e is = is ∙ rw e
 
 -- the sheet that is left
@@ -143,7 +143,7 @@ is-two (suc (suc (suc sheet))) more h other = absurd (omega arith)
 -- sheet 2, from opening's refusal, or from the column and the spelling that it found
 pub under-refused : (sheet : ℕ) (s : List ℕ) (room : ℕ) {n : ℕ} {also : List ℕ} {a : Outcome (Column × Spelling)} → sheet ≡ 2 → a ≡ columnIn (opened s room) → a ≡ refusal n also
     → a ≡ columnIn (openedUnder sheet s room)
-unfolding openedUnder
+unfolding underSheet
 under-refused sheet s room {n} {also} two is e = e ∙ rw two (go (opened s room) (sym is ∙ e))
   where
     go : (o : Outcome Loaded) → columnIn o ≡ refusal n also → refusal n also ≡ columnIn (o >>= (λ (l : Loaded). strict s (l .column) (l .spelling) >> value l))
@@ -152,7 +152,7 @@ under-refused sheet s room {n} {also} two is e = e ∙ rw two (go (opened s room
 
 pub under-strict : (sheet : ℕ) (s : List ℕ) (room : ℕ) (c : Column) (p : Spelling) {a : Outcome (Column × Spelling)} → sheet ≡ 2 → columnIn (opened s room) ≡ value (c, p) → a ≡ strictAs s c p
     → a ≡ columnIn (openedUnder sheet s room)
-unfolding openedUnder
+unfolding underSheet
 under-strict sheet s room c p two e is =
     is
     ∙ rw two

@@ -1,7 +1,7 @@
 -- `column_c::hulemartob_open` meets its contract: opening under sheet 1 is opening.
 -- Assumes nothing.
 use borrow.Author.Needs.{needs}
-use Rattle.format.specs.Sheets.{openedUnder}
+use Rattle.format.specs.Sheets.{underSheet, openedUnder}
 use Rattle.column_c.proofs.hulemartob_open.Statement.{statement}
 use Rattle.column_c.proofs.hulemartob_open.Tie as tie
 
@@ -12,7 +12,7 @@ same-length : tie.Need-same-length
 same-length c = search needs
 
 returns : tie.Need-returns
-unfolding openedUnder
+unfolding underSheet
 returns c = c .before .before .open-as .ensures
 
 pub hulemartob-open-spec : {M : Type 1} → statement M

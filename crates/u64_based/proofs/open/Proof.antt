@@ -1,7 +1,7 @@
 -- `u64_based::open` meets its contract: opening under sheet 1 is opening.
 -- Assumes nothing.
 use borrow.Author.Needs.{needs}
-use Rattle.format.specs.Sheets.{openedUnder}
+use Rattle.format.specs.Sheets.{underSheet, openedUnder}
 use Rattle.u64_based.proofs.open.Statement.{statement}
 use Rattle.u64_based.proofs.open.Tie as tie
 
@@ -12,7 +12,7 @@ same-length : tie.Need-same-length
 same-length c = search needs
 
 returns : tie.Need-returns
-unfolding openedUnder
+unfolding underSheet
 returns c = c .before .before .open-under .ensures
 
 pub open-spec : {M : Type 1} → statement M
