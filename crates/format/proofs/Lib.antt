@@ -26,6 +26,8 @@ pub mod Openings
 pub mod Laid
 pub mod Elsewhere
 pub mod Rows
+pub mod Windows
+pub mod WindowRuns
 pub mod Runs
 pub mod Lookups
 pub mod Sheets
@@ -59,6 +61,7 @@ pub mod MostBytes
 pub mod Asking
 pub mod RuleCases
 pub mod RunCases
+pub mod WindowCases
 pub mod LongCases
 pub mod Cases
 pub mod TypedCases
