@@ -15,7 +15,7 @@
  *     it during the call; nobody writes to the rest during the call.
  * Functions keep no state and no pointer, and may run in any number of threads.
  *
- * A column's ten numbers, which opening writes and reading takes:
+ * A column's twelve numbers, which opening writes and reading takes:
  *    0  codec: 0 Bitpacked, 1 Linear, 2 Blockwise
  *    1  minimum
  *    2  gcd
@@ -23,11 +23,14 @@
  *    4  rows
  *    5  start of the packed area, an offset into the bytes
  *    6  size of the packed area, in bytes
- *    7  slope      (the last three: Linear's; 0 for the others)
+ *    7  slope      (these three: Linear's; 0 for the others)
  *    8  intercept
  *    9  width, in bits
- * Any ten numbers may be handed to reading. Those that are no column (codec above 2, rows above 2^32 - 1, a Linear width above 255)
- * are refused 13 before anything else.
+ *   10  first row of the window through which the column is seen
+ *   11  rows of the window; opening shows the whole column: 0 and its rows
+ * Reading counts rows from the window's start. Any twelve numbers may be handed to reading. Those that are no column (codec above 2, a
+ * count of rows or a first row above 2^32 - 1, a Linear width above 255) are refused 13 before anything else; a window that leaves the
+ * column is refused 13 when one of its rows is read, or when it is narrowed.
  *
  * The block table of a Blockwise column has four numbers for each 512 rows: slope, intercept, width in bits, and the block's first
  * byte, counted from the start of the packed area. The other codecs do not look at it.
@@ -44,9 +47,9 @@
  *     9      a width byte is neither 0 to 56 nor 64                                              its offset
  *    10      the packed area does not fit; the footer's length is missing or too great           0
  *    11      the block table is too short                                                        the blocks needed
- *    12      the row is not below the column's rows                                              0
- *    13      column, table and bytes do not belong together                                      0
- *    14      a row's value lies outside minimum to minimum + gcd * count                         the row
+ *    12      the row is not below the window's rows                                              0
+ *    13      column, window, table and bytes do not belong together                              0
+ *    14      a row's value lies outside minimum to minimum + gcd * count                         the row, from the window's start
  *    15      the list for found rows is too short                                                the rows found
  *    17      a byte offends acceptance sheet 2                                                   the first one's offset
  *    18      the sheet is neither 1 nor 2                                                        0
@@ -72,35 +75,40 @@ void hulemartob_column_stats(const uint64_t *values, size_t values_len, uint64_t
 size_t hulemartob_serialize(const uint64_t *values, size_t values_len, const uint8_t *codecs, size_t codecs_len, uint8_t *out,
                             size_t out_len, uint64_t refusal[2]);
 
-/* Opens the column that `bytes` hold: its ten numbers are now in `column`, and its blocks, if it is Blockwise, the first numbers of
+/* Opens the column that `bytes` hold: its twelve numbers are now in `column`, and its blocks, if it is Blockwise, the first numbers of
  * `table`; the rest of the table is unchanged. Bytes behind the column are accepted. Refused 5 to 11. A table of no numbers is enough
  * for Bitpacked and Linear, and else is refused 11 with the blocks needed.
  * Returns the offset of the first number, in the head, Linear's line or the blocks' fields, that is spelled in more bytes than it need be;
  * UINT64_MAX where all are spelled as short as can be, and on refusal. */
-uint64_t hulemartob_open(const uint8_t *bytes, size_t bytes_len, uint64_t *table, size_t table_len, uint64_t column[10],
+uint64_t hulemartob_open(const uint8_t *bytes, size_t bytes_len, uint64_t *table, size_t table_len, uint64_t column[12],
                          uint64_t refusal[2]);
 
 /* Opens the column that `bytes` hold under an acceptance sheet. Sheet 1 is hulemartob_open. Sheet 2 asks besides that every number is spelled as
  * short as can be, that every byte belongs to a part of the column, and that the bits which fill up the packed area's last byte are 0; what
  * hulemartob_serialize writes passes both. Refused 18 before everything, then 5 to 11, then 17 under sheet 2 with the lowest offset that offends, for
  * a spelling its first byte: the table is then as it was. Returns what hulemartob_open does. */
-uint64_t hulemartob_open_under(uint32_t sheet, const uint8_t *bytes, size_t bytes_len, uint64_t *table, size_t table_len, uint64_t column[10],
+uint64_t hulemartob_open_under(uint32_t sheet, const uint8_t *bytes, size_t bytes_len, uint64_t *table, size_t table_len, uint64_t column[12],
                                uint64_t refusal[2]);
 
-/* Reads a row of an opened column, with the table and the bytes of its opening. Returns the value, 0 on refusal. Refused 12 to 14. */
-uint64_t hulemartob_row(const uint64_t column[10], const uint64_t *table, size_t table_len, const uint8_t *bytes, size_t bytes_len,
+/* Narrows a column's window to `count` rows from its row `first` on: numbers 10 and 11 of `column` are now the narrowed window's, counted from
+ * the column's first row. Refused 12 if first + count is above the window's rows, then 13 if the window leaves the column, even for no
+ * rows; `column` is then as it was. Neither table nor bytes are needed. */
+void hulemartob_narrow(uint64_t column[12], uint32_t first, uint32_t count, uint64_t refusal[2]);
+
+/* Reads a row of an opened column's window, with the table and the bytes of its opening. Returns the value, 0 on refusal. Refused 12 to 14. */
+uint64_t hulemartob_row(const uint64_t column[12], const uint64_t *table, size_t table_len, const uint8_t *bytes, size_t bytes_len,
                         uint32_t row, uint64_t refusal[2]);
 
-/* Looks up the rows from `first` to below `end`, which is cut to the column's rows, whose value lies from `low` to `high`. They are now
+/* Looks up the rows from `first` to below `end`, which is cut to the window's rows, whose value lies from `low` to `high`. They are now
  * the first entries of `found`, ascending; the rest of it is unchanged. Returns how many they are, 0 on refusal. The first row of the
  * run that hulemartob_row refuses decides (13, 14), whatever the range is; then 15. */
-size_t hulemartob_lookup(const uint64_t column[10], const uint64_t *table, size_t table_len, const uint8_t *bytes, size_t bytes_len,
+size_t hulemartob_lookup(const uint64_t column[12], const uint64_t *table, size_t table_len, const uint8_t *bytes, size_t bytes_len,
                          uint64_t low, uint64_t high, uint32_t first, uint32_t end, uint32_t *found, size_t found_len,
                          uint64_t refusal[2]);
 
 /* Decodes the rows from `first` on, as many as `out` has entries, into `out`. Returns how many they are, 0 on refusal, which leaves `out` as it
  * was. Refused 12 before all else if the run leaves the rows; then the first row of it that hulemartob_row refuses decides (13, 14). */
-size_t hulemartob_run(const uint64_t column[10], const uint64_t *table, size_t table_len, const uint8_t *bytes, size_t bytes_len,
+size_t hulemartob_run(const uint64_t column[12], const uint64_t *table, size_t table_len, const uint8_t *bytes, size_t bytes_len,
                       uint32_t first, uint64_t *out, size_t out_len, uint64_t refusal[2]);
 
 /* ---- columns of signed numbers, dates, bools and floats
@@ -117,7 +125,7 @@ size_t hulemartob_run(const uint64_t column[10], const uint64_t *table, size_t t
  * These mappings keep order: stored numbers are ordered as the values are, -0.0 directly under +0.0, NaNs beyond the infinity of their
  * sign. All bits return, but of a bool only whether it is true.
  *
- * Any other number of a kind is refused 13 before anything else, as ten numbers that are no column are.
+ * Any other number of a kind is refused 13 before anything else, as twelve numbers that are no column are.
  */
 #define HULEMARTOB_U64 0u
 #define HULEMARTOB_I64 1u
@@ -172,29 +180,29 @@ static inline double hulemartob_f64_of(uint64_t stored) {
     return value;
 }
 
-static inline int64_t hulemartob_row_i64(const uint64_t column[10], const uint64_t *table, size_t table_len, const uint8_t *bytes,
+static inline int64_t hulemartob_row_i64(const uint64_t column[12], const uint64_t *table, size_t table_len, const uint8_t *bytes,
                                          size_t bytes_len, uint32_t row, uint64_t refusal[2]) {
     uint64_t stored = hulemartob_row(column, table, table_len, bytes, bytes_len, row, refusal);
     return refusal[0] ? 0 : hulemartob_i64_of(stored);
 }
 
-static inline int64_t hulemartob_row_date(const uint64_t column[10], const uint64_t *table, size_t table_len, const uint8_t *bytes,
+static inline int64_t hulemartob_row_date(const uint64_t column[12], const uint64_t *table, size_t table_len, const uint8_t *bytes,
                                           size_t bytes_len, uint32_t row, uint64_t refusal[2]) {
     return hulemartob_row_i64(column, table, table_len, bytes, bytes_len, row, refusal);
 }
 
-static inline bool hulemartob_row_bool(const uint64_t column[10], const uint64_t *table, size_t table_len, const uint8_t *bytes,
+static inline bool hulemartob_row_bool(const uint64_t column[12], const uint64_t *table, size_t table_len, const uint8_t *bytes,
                                        size_t bytes_len, uint32_t row, uint64_t refusal[2]) {
     return hulemartob_bool_of(hulemartob_row(column, table, table_len, bytes, bytes_len, row, refusal));
 }
 
-static inline double hulemartob_row_f64(const uint64_t column[10], const uint64_t *table, size_t table_len, const uint8_t *bytes,
+static inline double hulemartob_row_f64(const uint64_t column[12], const uint64_t *table, size_t table_len, const uint8_t *bytes,
                                         size_t bytes_len, uint32_t row, uint64_t refusal[2]) {
     uint64_t stored = hulemartob_row(column, table, table_len, bytes, bytes_len, row, refusal);
     return refusal[0] ? 0.0 : hulemartob_f64_of(stored);
 }
 
-static inline size_t hulemartob_lookup_i64(const uint64_t column[10], const uint64_t *table, size_t table_len, const uint8_t *bytes,
+static inline size_t hulemartob_lookup_i64(const uint64_t column[12], const uint64_t *table, size_t table_len, const uint8_t *bytes,
                                            size_t bytes_len, int64_t low, int64_t high, uint32_t first, uint32_t end, uint32_t *found,
                                            size_t found_len, uint64_t refusal[2]) {
     uint64_t range[2];
@@ -202,13 +210,13 @@ static inline size_t hulemartob_lookup_i64(const uint64_t column[10], const uint
     return hulemartob_lookup(column, table, table_len, bytes, bytes_len, range[0], range[1], first, end, found, found_len, refusal);
 }
 
-static inline size_t hulemartob_lookup_date(const uint64_t column[10], const uint64_t *table, size_t table_len, const uint8_t *bytes,
+static inline size_t hulemartob_lookup_date(const uint64_t column[12], const uint64_t *table, size_t table_len, const uint8_t *bytes,
                                             size_t bytes_len, int64_t low, int64_t high, uint32_t first, uint32_t end, uint32_t *found,
                                             size_t found_len, uint64_t refusal[2]) {
     return hulemartob_lookup_i64(column, table, table_len, bytes, bytes_len, low, high, first, end, found, found_len, refusal);
 }
 
-static inline size_t hulemartob_lookup_bool(const uint64_t column[10], const uint64_t *table, size_t table_len, const uint8_t *bytes,
+static inline size_t hulemartob_lookup_bool(const uint64_t column[12], const uint64_t *table, size_t table_len, const uint8_t *bytes,
                                             size_t bytes_len, bool low, bool high, uint32_t first, uint32_t end, uint32_t *found,
                                             size_t found_len, uint64_t refusal[2]) {
     uint64_t range[2];
@@ -217,7 +225,7 @@ static inline size_t hulemartob_lookup_bool(const uint64_t column[10], const uin
 }
 
 /* By the stored numbers: from +0.0 to +0.0 no -0.0 is found, and bounds may be NaNs. */
-static inline size_t hulemartob_lookup_f64(const uint64_t column[10], const uint64_t *table, size_t table_len, const uint8_t *bytes,
+static inline size_t hulemartob_lookup_f64(const uint64_t column[12], const uint64_t *table, size_t table_len, const uint8_t *bytes,
                                            size_t bytes_len, double low, double high, uint32_t first, uint32_t end, uint32_t *found,
                                            size_t found_len, uint64_t refusal[2]) {
     uint64_t bounds[2], range[2];
@@ -228,14 +236,14 @@ static inline size_t hulemartob_lookup_f64(const uint64_t column[10], const uint
 }
 
 /* Runs: decoded in place, then read. (Bools take less room than words: decode words, and read each by hulemartob_bool_of.) */
-static inline size_t hulemartob_run_i64(const uint64_t column[10], const uint64_t *table, size_t table_len, const uint8_t *bytes,
+static inline size_t hulemartob_run_i64(const uint64_t column[12], const uint64_t *table, size_t table_len, const uint8_t *bytes,
                                         size_t bytes_len, uint32_t first, int64_t *out, size_t out_len, uint64_t refusal[2]) {
     size_t many = hulemartob_run(column, table, table_len, bytes, bytes_len, first, (uint64_t *)out, out_len, refusal);
     for (size_t i = 0; i < many; i++) out[i] = hulemartob_i64_of((uint64_t)out[i]);
     return many;
 }
 
-static inline size_t hulemartob_run_f64(const uint64_t column[10], const uint64_t *table, size_t table_len, const uint8_t *bytes,
+static inline size_t hulemartob_run_f64(const uint64_t column[12], const uint64_t *table, size_t table_len, const uint8_t *bytes,
                                         size_t bytes_len, uint32_t first, double *out, size_t out_len, uint64_t refusal[2]) {
     size_t many = hulemartob_run(column, table, table_len, bytes, bytes_len, first, (uint64_t *)(void *)out, out_len, refusal);
     for (size_t i = 0; i < many; i++) {

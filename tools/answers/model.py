@@ -245,9 +245,16 @@ class Column:
     def __init__(self, *numbers):
         for name, number in zip(self.FIELDS, numbers, strict=True):
             setattr(self, name, number)
+        self.first, self.seen = 0, self.rows
 
     def numbers(self):
         return [getattr(self, name) for name in self.FIELDS]
+
+    def window(self, first, seen):
+        """The same column through another window: its first row, and how many rows are seen."""
+        column = Column(*self.numbers())
+        column.first, column.seen = first, seen
+        return column
 
 
 def read_head(s):
@@ -358,8 +365,18 @@ def open_under(sheet, s, room):
 # ---- reading and looking up
 
 
-def read_row(column, table, s, row):
-    demand(row < column.rows, 12)
+def narrow(column, first, count):
+    """A window in a column's window."""
+    demand(first + count <= column.seen, 12)
+    demand(column.first + column.seen <= column.rows, 13)
+    return column.window(column.first + first, count)
+
+
+def read_row(column, table, s, asked):
+    """A row of the window; a refusal names it as it was asked for."""
+    demand(asked < column.seen, 12)
+    demand(column.first + column.seen <= column.rows, 13)
+    row = column.first + asked
     maximum = column.minimum + column.count * column.gcd
     demand(column.gcd != 0 and maximum < WORD, 13)
     slope, intercept, start, place = column.slope, column.intercept, 0, row
@@ -374,17 +391,17 @@ def read_row(column, table, s, row):
     n = unpack(bits, s[column.start + start : column.start + column.size], place) if bits else 0
     if column.codec == LINEAR:
         value = (line_at(slope, intercept, row) + n) % WORD
-        demand(column.minimum <= value <= maximum, 14, row)
+        demand(column.minimum <= value <= maximum, 14, asked)
         return value
     if column.codec == BLOCKWISE:
         n = (line_at(slope, intercept, place) + n) % WORD
-    demand(n <= column.count, 14, row)
+    demand(n <= column.count, 14, asked)
     return column.minimum + column.gcd * n
 
 
 def read_run(column, table, s, first, length):
     """The values of so many rows from one on. A run that leaves the rows is refused before all else, so an empty one may stand at their end."""
-    demand(first + length <= column.rows, 12)
+    demand(first + length <= column.seen, 12)
     return [read_row(column, table, s, row) for row in range(first, first + length)]
 
 
@@ -429,7 +446,7 @@ def in_order(kind, word):
 
 def look_up(column, table, s, low, high, first, end, room, kind=U64):
     """The rows found; room is the length of the list that is lent for them. The bounds are words of the kind."""
-    rows = range(first, min(end, column.rows))
+    rows = range(first, min(end, column.seen))
     values = [(row, in_order(kind, reads_as(kind, read_row(column, table, s, row)))) for row in rows]
     found = [row for row, value in values if in_order(kind, low) <= value <= in_order(kind, high)]
     demand(len(found) <= room, 15, len(found))

@@ -2,7 +2,7 @@
 
 from model import WORD, Column
 
-LIST, OPEN, MADE, UNDER, RUN = 1, 2, 3, 4, 5
+LIST, OPEN, MADE, UNDER, RUN, NARROW = 1, 2, 3, 4, 5, 6
 MODEL, ORACLE = 0, 1
 PREFIX = 400  # longer columns are told by their first bytes and the checksum
 FIRST = 32
@@ -136,7 +136,7 @@ def read_file(s):
     while at < len(s):
         kind, source, length = s[at], s[at + 1], int.from_bytes(s[at + 4 : at + 8], "little")
         values = s[at + 2]
-        assert kind in (LIST, OPEN, MADE, UNDER, RUN) and source in (MODEL, ORACLE) and values <= 4 * (kind == LIST) and s[at + 3] == 0, "a record's first word"
+        assert kind in (LIST, OPEN, MADE, UNDER, RUN, NARROW) and source in (MODEL, ORACLE) and values <= 4 * (kind == LIST) and s[at + 3] == 0, "a record's first word"
         walk = Walk(s, at + 8, at + length)
         case = read_list(walk) if kind == LIST else read_column(walk)
         assert walk.at == walk.end, "a record has nothing left over"

@@ -1,4 +1,4 @@
-// The records OPEN, UNDER, MADE and RUN: a column that is opened or put together, and then asked. Each function is told the record's place and its end.
+// The records OPEN, UNDER, MADE, RUN and NARROW: a column that is opened or put together, and then asked. Each function is told the record's place and its end.
 use crate::answers::Outcome;
 use crate::answers::nothing_asked;
 use crate::answers::of_opening;
@@ -18,6 +18,7 @@ use format::Codec;
 use format::Column;
 use format::Line;
 use format::Opened;
+use format::Window;
 
 // The longest table that is lent.
 const TABLE: usize = 64;
@@ -109,17 +110,34 @@ fn codec_at(file: &[u8], at: usize) -> Codec {
     }
 }
 
+// The window that the record's numbers make: its first row, and how many rows it lacks of the column's, modulo 2^32.
+fn window_at(file: &[u8], at: usize, rows: u32) -> Window {
+    let lacks = half_at(file, after(at, 3)) as u64;
+    let seen = (rows as u64 + 0x1_0000_0000 - lacks) % 0x1_0000_0000;
+    Window {
+        first: half_at(file, after(at, 2)),
+        rows: seen as u32,
+    }
+}
+
 // The column that the record's numbers make.
 fn column_at(file: &[u8], at: usize) -> Column {
+    let rows = half_at(file, after(at, 8));
     Column {
         minimum: word_at(file, after(at, 5)),
         gcd: word_at(file, after(at, 6)),
         count: word_at(file, after(at, 7)),
-        rows: half_at(file, after(at, 8)),
+        rows,
         start: word_at(file, after(at, 9)) as usize,
         size: word_at(file, after(at, 10)) as usize,
+        window: window_at(file, at, rows),
         codec: codec_at(file, at),
     }
+}
+
+// Whether a column is seen as a whole.
+fn seen_whole(column: Column) -> bool {
+    column.window.first == 0 && column.window.rows == column.rows
 }
 
 // Whether the table is what the record has of it, and as it was behind that.
@@ -150,6 +168,9 @@ fn opened_alike(
                 return nothing_asked(false);
             }
             if !column_stored(column, file, at) {
+                return nothing_asked(false);
+            }
+            if !seen_whole(column) {
                 return nothing_asked(false);
             }
             if !table_stored(table, file, at) {
@@ -204,7 +225,7 @@ pub(crate) fn under(file: &[u8], at: usize, end: usize) -> Outcome {
     opened_in(sheet, room, file, at, end)
 }
 
-// A record MADE or RUN. Its table is as long as it is filled.
+// A record MADE, RUN or NARROW. Its table is as long as it is filled.
 pub(crate) fn made(file: &[u8], at: usize, end: usize) -> Outcome {
     let room = count_at(file, after(at, 14));
     if TABLE < room {

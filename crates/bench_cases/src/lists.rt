@@ -19,11 +19,11 @@ use crate::words::take_words;
 use crate::words::word_at;
 use crate::words::words_for;
 use format::Column;
-use format::ColumnRow;
 use format::Kind;
 use format::Opened;
 use format::RowRead;
 use format::Stated;
+use format::WindowRow;
 use format::Written;
 
 // The longest list.
@@ -108,7 +108,7 @@ fn stats_stored(values: &[u64], file: &[u8], at: usize) -> bool {
 
 // Whether a row of an opened column is what a value is stored as.
 fn row_is(column: Column, table: &[u64], bytes: &[u8], row: usize, kind: Kind, value: u64) -> bool {
-    let row = ColumnRow((row % 0x1_0000_0000) as u32);
+    let row = WindowRow((row % 0x1_0000_0000) as u32);
     match u64_based::row(column, table, bytes, row) {
         RowRead::Value(read) => read == monotonic_mapping::stored_of(kind, value),
         RowRead::Refused(_) => false,

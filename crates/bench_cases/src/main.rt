@@ -82,6 +82,7 @@ fn record(file: &[u8], at: usize, end: usize) -> Outcome {
         3 => columns::made(file, at, end),
         4 => columns::under(file, at, end),
         5 => columns::made(file, at, end),
+        6 => columns::made(file, at, end),
         _ => nothing_asked(false),
     }
 }
@@ -153,13 +154,14 @@ fn main() {
         .plus(replay_file(b"sheets.cases"));
     let reading = replay_file(b"made.cases")
         .plus(replay_file(b"lookup.cases"))
-        .plus(replay_file(b"runs.cases"));
+        .plus(replay_file(b"runs.cases"))
+        .plus(replay_file(b"windows.cases"));
     let typed = replay_file(b"typed.cases");
     let total = writing.plus(opening).plus(reading).plus(typed);
     put(b"all: ");
     put_count(total.records, b" records, ");
     put_count(total.rows, b" rows, ");
-    put_count(total.lookups, b" lookups and runs, ");
+    put_count(total.lookups, b" lookups, runs and narrowings, ");
     put_count(total.back, b" rows written and read back, ");
     put_count(total.differ, b" differ\n");
 }

@@ -1,4 +1,4 @@
-// The questions to a column: rows, and lookups or runs. The upper half of a row, and of a lookup's first row, is the number of a kind, by which values are read.
+// The questions to a column: rows, and lookups, runs or narrowings. The upper half of a row, and of a lookup's first row, is the number of a kind, by which values are read.
 use crate::answers::Outcome;
 use crate::answers::of_row;
 use crate::answers::refused;
@@ -18,9 +18,10 @@ use crate::words::half_at;
 use crate::words::upper_at;
 use crate::words::word_at;
 use format::Column;
-use format::ColumnRow;
 use format::Found;
+use format::Narrowed;
 use format::RunRead;
+use format::WindowRow;
 
 // How many questions were answered as stored, and the place behind them.
 struct Walk {
@@ -30,7 +31,7 @@ struct Walk {
 
 // Whether the row at a place is answered as stored.
 fn row_alike(column: Column, table: &[u64], bytes: &[u8], file: &[u8], at: usize) -> bool {
-    let row = ColumnRow(half_at(file, at));
+    let row = WindowRow(half_at(file, at));
     let kind = kind_of(upper_at(file, at));
     let read = u64_based::row(column, table, bytes, row);
     of_row(read_as(kind, read)).is_stored(file, after(at, 1))
@@ -137,24 +138,49 @@ fn run_alike(column: Column, table: &[u64], bytes: &[u8], file: &[u8], at: usize
     values_alike(column, table, bytes, file, at, &mut out[..length])
 }
 
-// Whether what stands at a place, a run or a lookup, is answered as stored.
+// Whether a column's window is the one at a place, its two numbers behind their count.
+fn window_stored(column: Column, file: &[u8], at: usize) -> bool {
+    let first = column.window.first as u64;
+    let rows = column.window.rows as u64;
+    let numbers = [2, first, rows];
+    numbers_stored(&numbers, 3, file, at)
+}
+
+// Whether the narrowing at a place is answered as stored, with the window that the column has then.
+fn narrow_alike(column: Column, file: &[u8], at: usize) -> bool {
+    let first = half_at(file, after(at, 2));
+    let count = half_at(file, after(at, 3));
+    match u64_based::narrow(column, first, count) {
+        Narrowed::Column(narrowed) => {
+            success().is_stored(file, after(at, 5)) && window_stored(narrowed, file, after(at, 7))
+        }
+        Narrowed::Refused(why, left) => {
+            refused(why).is_stored(file, after(at, 5)) && window_stored(left, file, after(at, 7))
+        }
+    }
+}
+
+// Whether what stands at a place is answered as stored: a run in a record RUN, a narrowing in a record NARROW, else a lookup.
 fn asked_alike(
-    runs: bool,
+    kind: u64,
     column: Column,
     table: &[u64],
     bytes: &[u8],
     file: &[u8],
     at: usize,
 ) -> bool {
-    if runs {
+    if kind == 5 {
         return run_alike(column, table, bytes, file, at);
+    }
+    if kind == 6 {
+        return narrow_alike(column, file, at);
     }
     lookup_alike(column, table, bytes, file, at)
 }
 
-// Makes so many lookups, or runs, up to the first that is answered otherwise.
+// Makes so many lookups, runs or narrowings up to the first that is answered otherwise.
 fn ask_lookups(
-    runs: bool,
+    kind: u64,
     column: Column,
     table: &[u64],
     bytes: &[u8],
@@ -165,7 +191,7 @@ fn ask_lookups(
     let mut asked = 0;
     let mut at = from;
     while asked < count {
-        if !asked_alike(runs, column, table, bytes, file, at) {
+        if !asked_alike(kind, column, table, bytes, file, at) {
             break;
         }
         asked += 1;
@@ -174,7 +200,7 @@ fn ask_lookups(
     Walk { asked, at }
 }
 
-// Asks the rows and makes the lookups of a record, which stand from a place on to the record's end. The lookups of a record RUN are runs.
+// Asks the rows and makes the lookups of a record, which stand from a place on to the record's end. The lookups of a record RUN are runs, those of a record NARROW narrowings.
 pub(crate) fn ask(
     column: Column,
     table: &[u64],
@@ -187,8 +213,8 @@ pub(crate) fn ask(
     let rows = count_at(file, after(record, 16));
     let lookups = count_at(file, after(record, 17));
     let read = ask_rows(column, table, bytes, file, from, rows);
-    let runs = word_at(file, record) % 256 == 5;
-    let looked = ask_lookups(runs, column, table, bytes, file, read.at, lookups);
+    let kind = word_at(file, record) % 256;
+    let looked = ask_lookups(kind, column, table, bytes, file, read.at, lookups);
     Outcome {
         rows: read.asked,
         lookups: looked.asked,

@@ -17,6 +17,7 @@ use format::Head;
 use format::Opened;
 use format::Refusal;
 use format::RowRead;
+use format::Window;
 
 // The column of a head: its area comes behind it, at the width of the count.
 pub fn load(bytes: &[u8], head: Head) -> Opened
@@ -28,6 +29,10 @@ pub fn load(bytes: &[u8], head: Head) -> Opened
         return Opened::Refused(Refusal::AreaShort);
     }
     let spelling = head.spelling;
+    let window = Window {
+        first: 0,
+        rows: head.rows,
+    };
     let column = Column {
         minimum: head.minimum,
         gcd: head.gcd,
@@ -35,6 +40,7 @@ pub fn load(bytes: &[u8], head: Head) -> Opened
         rows: head.rows,
         start: head.next,
         size,
+        window,
         codec: Codec::Bitpacked,
     };
     Opened::Column(column, spelling)

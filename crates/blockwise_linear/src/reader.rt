@@ -30,6 +30,7 @@ use format::Opened;
 use format::Refusal;
 use format::RowRead;
 use format::Spelling;
+use format::Window;
 use line::FieldsRead;
 
 // A block of a table that has none.
@@ -179,6 +180,10 @@ fn loaded(head: Head, size: usize, spelling: Spelling, footer: usize) -> Opened
     if !word::ends_within(head.next, size, footer) {
         return Opened::Refused(Refusal::AreaShort);
     }
+    let window = Window {
+        first: 0,
+        rows: head.rows,
+    };
     let column = Column {
         minimum: head.minimum,
         gcd: head.gcd,
@@ -186,6 +191,7 @@ fn loaded(head: Head, size: usize, spelling: Spelling, footer: usize) -> Opened
         rows: head.rows,
         start: head.next,
         size,
+        window,
         codec: Codec::Blockwise,
     };
     let first = head.spelling;

@@ -1,8 +1,9 @@
 -- From the answers of the entry points to the numbers that a caller finds.
---     through, stopped                  a column of ten numbers leads on to what is done with it, or its refusal decides
+--     through, stopped                  a column of twelve numbers leads on to what is done with it, or its refusal decides
 --     found, refused                    the result and the refusal's numbers
 --     listed, unlisted, untouched       the same, with a lent list
 --     opened-column, not-opened         an opening
+--     narrowed-column, not-narrowed     a narrowing
 --     stated-numbers, not-stated        statistics
 -- Assumes nothing.
 use Prim.Native.Nat.{ℕ, _-_, _^_}
@@ -23,7 +24,7 @@ use Rattle.format.specs.Refusals.{paper, numbered, statedMeaning, openedMeaning
 use Rattle.format.specs.Calls.{OpenedAs}
 use Rattle.column_c.specs.declared.Made.{Made}
 use Rattle.column_c.specs.declared.Made.the-variants.{Column as MadeColumn, Refused as NotMade}
-use Rattle.column_c.specs.Numbers.{madeMeaning, told, orZero, offsetOf, longerIn, statsNumbers, columnNumbers, filled, Answers, Lists, Opens, States}
+use Rattle.column_c.specs.Numbers.{madeMeaning, told, orZero, offsetOf, longerIn, statsNumbers, columnNumbers, filled, Answers, Lists, Opens, Narrows, States}
 
 -- the two numbers of a refusal
 abbrev pub twoOf : Refusal → List ℕ
@@ -86,6 +87,23 @@ module _ {o : Outcome Loaded} {a : Opened} {column table table′ : List ℕ} (o
         refusal-is = puts ∙ sym (told-column o ∙ ap told is);
         column-is = sym (ap (λ (x : Outcome (Column × Spelling)). filled (x >>= (λ (a : Column × Spelling). value (columnNumbers (a .0)))) column) is);
         table-is = opens .table;
+      }
+
+-- ---- narrowing
+
+module _ {o : Outcome Column} {column : List ℕ} where
+  pub narrowed-column : {c : Column} {ns : List ℕ} → o ≡ value c → ns ≡ columnNumbers c → Narrows o (0 ∷ 0 ∷ []) column ns
+  narrowed-column is numbers =
+      record {
+        refusal-is = sym (ap told is);
+        column-is = numbers ∙ sym (ap (λ (x : Outcome Column). filled (x >>= (λ (c : Column). value (columnNumbers c))) column) is);
+      }
+
+  pub not-narrowed : (q : Refusal) {two : List ℕ} → o ≡ numbered q → two ≡ twoOf q → Narrows o two column column
+  not-narrowed q is puts =
+      record {
+        refusal-is = puts ∙ sym (ap told is);
+        column-is = sym (ap (λ (x : Outcome Column). filled (x >>= (λ (c : Column). value (columnNumbers c))) column) is);
       }
 
 -- ---- statistics

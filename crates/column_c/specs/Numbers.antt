@@ -2,7 +2,8 @@
 -- Assumes nothing.
 use Prim.Native.Nat.{ℕ, zero, suc, _-_, _^_}
 use mathlib.Core.Path.{_≡_}
-use mathlib.Core.List.{List, [], _∷_}
+use mathlib.Core.Bool.{Bool, _&&_}
+use mathlib.Core.List.{List, [], _∷_, _++_}
 use lib.Dec.{ltb}
 use lib.ListN.{getD}
 use Rattle.format.specs.declared.Codec.{Codec}
@@ -18,6 +19,7 @@ use Rattle.format.specs.Opening.{Loaded, columnIn, tableIn}
 use Rattle.format.specs.Reading.{rowAt}
 use Rattle.format.specs.Refusals.{numbered}
 use Rattle.format.specs.Runs.{decoded}
+use Rattle.format.specs.Windows.{narrowed}
 use Rattle.column_c.specs.declared.Made.{Made}
 use Rattle.column_c.specs.declared.Made.the-variants.{Column as MadeColumn, Refused as NotMade}
 
@@ -55,11 +57,12 @@ ownNumbers Bitpacked = 0 ∷ 0 ∷ 0 ∷ []
 ownNumbers (Linear l w) = l .slope ∷ l .intercept ∷ w ∷ []
 ownNumbers Blockwise = 0 ∷ 0 ∷ 0 ∷ []
 
--- the ten numbers of an opened column
+-- the twelve numbers of an opened column: the last two are its window's
 abbrev pub columnNumbers : Column → List ℕ
-columnNumbers c = codeOf (c .codec) ∷ c .minimum ∷ c .gcd ∷ c .count ∷ c .rows ∷ c .start ∷ c .size ∷ ownNumbers (c .codec)
+columnNumbers c =
+    codeOf (c .codec) ∷ c .minimum ∷ c .gcd ∷ c .count ∷ c .rows ∷ c .start ∷ c .size ∷ (ownNumbers (c .codec) ++ (c .window .first ∷ c .window .rows ∷ []))
 
--- the column of ten numbers, with its codec
+-- the column of twelve numbers, with its codec
 abbrev pub columnWith : List ℕ → Codec → Column
 columnWith ns codec =
     record {
@@ -69,6 +72,7 @@ columnWith ns codec =
       rows = getD ns 4 0;
       start = getD ns 5 0;
       size = getD ns 6 0;
+      window = record { first = getD ns 10 0; rows = getD ns 11 0 };
       codec = codec;
     }
 
@@ -80,30 +84,38 @@ codecFrom (suc zero) slope intercept bits =
 codecFrom (suc (suc zero)) slope intercept bits = value Blockwise
 codecFrom (suc (suc (suc code))) slope intercept bits = refusal 13 []
 
--- the column of ten numbers, if they are one
+-- whether the counts of rows in twelve numbers, the column's and its window's two, are below 2^32
+abbrev pub countsFit : List ℕ → Bool
+countsFit ns = ltb (getD ns 4 0) (2 ^ 32) && ltb (getD ns 10 0) (2 ^ 32) && ltb (getD ns 11 0) (2 ^ 32)
+
+-- the column of twelve numbers, if they are one
 unfoldable pub columnFrom : List ℕ → Outcome Column
 columnFrom ns = do
-  demand (ltb (getD ns 4 0) (2 ^ 32)) 13 []
+  demand (countsFit ns) 13 []
   codec ← codecFrom (getD ns 0 0) (getD ns 7 0) (getD ns 8 0) (getD ns 9 0)
   value (columnWith ns codec)
 
--- what ten numbers are
+-- what twelve numbers are
 abbrev pub madeMeaning : Made → Outcome Column
 madeMeaning (MadeColumn c) = value c
 madeMeaning (NotMade r) = numbered r
 
--- reading a row of the column of ten numbers
+-- narrowing the column of twelve numbers
+abbrev pub narrowedFrom : (ns : List ℕ) (first count : ℕ) → Outcome Column
+narrowedFrom ns first count = columnFrom ns >>= (λ (col : Column). narrowed col first count)
+
+-- reading a row of the column of twelve numbers
 abbrev pub rowFrom : (ns t s : List ℕ) (r : ℕ) → Outcome ℕ
 rowFrom ns t s r = columnFrom ns >>= (λ (col : Column). rowAt col t s r)
 
 -- looking its rows up
 abbrev pub foundFrom : (ns t s : List ℕ) (low high first end room : ℕ) → Outcome (List ℕ)
 foundFrom ns t s low high first end room =
-    columnFrom ns >>= (λ (col : Column). lookedUp (rowAt col t s) (col .rows) (within low high) first end room)
+    columnFrom ns >>= (λ (col : Column). lookedUp (rowAt col t s) (col .window .rows) (within low high) first end room)
 
 -- decoding a run of its rows
 abbrev pub runFrom : (ns t s : List ℕ) (first n : ℕ) → Outcome (List ℕ)
-runFrom ns t s first n = columnFrom ns >>= (λ (col : Column). decoded (rowAt col t s) (col .rows) first n)
+runFrom ns t s first n = columnFrom ns >>= (λ (col : Column). decoded (rowAt col t s) (col .window .rows) first n)
 
 -- ---- what a call leaves
 
@@ -128,6 +140,11 @@ pub record Opens (outcome : Outcome Loaded) (result : ℕ) (refusal column colum
   pub refusal-is : refusal ≡ told outcome
   pub column-is : column′ ≡ filled (columnIn outcome >>= (λ (a : Column × Spelling). value (columnNumbers (a .0)))) column
   pub table-is : table′ ≡ stored (tableIn outcome) table
+
+-- a narrowing: the numbers of its refusal and of its column
+pub record Narrows (outcome : Outcome Column) (refusal column column′ : List ℕ) : Type 0 where
+  pub refusal-is : refusal ≡ told outcome
+  pub column-is : column′ ≡ filled (outcome >>= (λ (c : Column). value (columnNumbers c))) column
 
 -- statistics: the numbers of their refusal, and their own
 pub record States (outcome : Outcome ColumnStats) (refusal stats stats′ : List ℕ) : Type 0 where

@@ -1,4 +1,4 @@
-// The library for Rust and C: the entry points over plain numbers. A refusal is two numbers, an opened column ten. Every call puts its refusal's
+// The library for Rust and C: the entry points over plain numbers. A refusal is two numbers, an opened column twelve. Every call puts its refusal's
 // numbers, both 0 where nothing is refused; a refusal changes no other lent entry. A longer spelling is its offset, 2^64 - 1 where there is none.
 mod typed;
 
@@ -12,18 +12,20 @@ ghost use Rattle.format.specs.Sheets.{openedUnder};
 ghost use Rattle.format.specs.Refusals.{paper};
 ghost use Rattle.format.specs.Stats.{stated};
 ghost use Rattle.format.specs.Writing.{written};
-ghost use Rattle.column_c.specs.Numbers.{madeMeaning, offsetOf, ownNumbers, columnNumbers, columnWith, columnFrom, rowFrom, foundFrom, runFrom, Answers, Lists, Opens, States};
+ghost use Rattle.column_c.specs.Numbers.{madeMeaning, offsetOf, ownNumbers, columnNumbers, columnWith, countsFit, columnFrom, narrowedFrom, rowFrom, foundFrom, runFrom, Answers, Lists, Opens, Narrows, States};
 use format::Codec;
 use format::Column;
-use format::ColumnRow;
 use format::Found;
 use format::Line;
+use format::Narrowed;
 use format::Opened;
 use format::Refusal;
 use format::RowRead;
 use format::RunRead;
 use format::Spelling;
 use format::Stated;
+use format::Window;
+use format::WindowRow;
 use format::Written;
 
 // The two numbers where nothing is refused.
@@ -57,8 +59,8 @@ fn codec_numbers(codec: Codec) -> [u64; 4]
     }
 }
 
-// The ten numbers of a column.
-fn column_numbers(column: Column) -> [u64; 10]
+// The twelve numbers of a column.
+fn column_numbers(column: Column) -> [u64; 12]
     ensures { λ r. ⌜ r ≡ columnNumbers column ⌝ }
 {
     let codec = column.codec;
@@ -74,12 +76,14 @@ fn column_numbers(column: Column) -> [u64; 10]
         own[1],
         own[2],
         own[3],
+        column.window.first as u64,
+        column.window.rows as u64,
     ]
 }
 
-// Internal: asks for fewer than 2^32 rows. The column of ten numbers, with its codec.
-fn column_with(numbers: &[u64; 10], codec: Codec) -> Column
-    requires { ⌜ getD (now numbers) 4 0 < 2 ^ 32 ⌝ }
+// Internal: asks for counts of rows below 2^32. The column of twelve numbers, with its codec.
+fn column_with(numbers: &[u64; 12], codec: Codec) -> Column
+    requires { ⌜ (getD (now numbers) 4 0 < 2 ^ 32) × (getD (now numbers) 10 0 < 2 ^ 32) × (getD (now numbers) 11 0 < 2 ^ 32) ⌝ }
     ensures { λ r. ⌜ r ≡ columnWith (now (numbers .entry)) codec ⌝ }
 {
     Column {
@@ -89,8 +93,28 @@ fn column_with(numbers: &[u64; 10], codec: Codec) -> Column
         rows: numbers[4] as u32,
         start: numbers[5] as usize,
         size: numbers[6] as usize,
+        window: Window {
+            first: numbers[10] as u32,
+            rows: numbers[11] as u32,
+        },
         codec,
     }
+}
+
+// Whether the three counts of rows in a column's numbers, its own and its window's two, are below 2^32.
+fn counts_fit(numbers: &[u64; 12]) -> bool
+    ensures { λ r. ⌜ r ≡ countsFit (now (numbers .entry)) ⌝ }
+{
+    if 0xffff_ffff < numbers[4] {
+        return false;
+    }
+    if 0xffff_ffff < numbers[10] {
+        return false;
+    }
+    if 0xffff_ffff < numbers[11] {
+        return false;
+    }
+    true
 }
 
 // A column that a caller hands over as numbers.
@@ -99,11 +123,11 @@ pub enum Made {
     Refused(Refusal),
 }
 
-// The column of ten numbers, if they are one.
-fn column_from(numbers: &[u64; 10]) -> Made
+// The column of twelve numbers, if they are one.
+fn column_from(numbers: &[u64; 12]) -> Made
     ensures { λ r. ⌜ madeMeaning r ≡ columnFrom (now (numbers .entry)) ⌝ }
 {
-    if 0xffff_ffff < numbers[4] {
+    if !counts_fit(numbers) {
         return Made::Refused(Refusal::Unfit);
     }
     match numbers[0] {
@@ -166,13 +190,13 @@ pub extern "C" fn hulemartob_serialize(
     }
 }
 
-// Opens a column under a sheet: its ten numbers, and its blocks in the table. Returns the offset of the first longer spelling, 2^64 - 1 where
+// Opens a column under a sheet: its twelve numbers, and its blocks in the table. Returns the offset of the first longer spelling, 2^64 - 1 where
 // there is none and on refusal.
 fn open_as(
     sheet: u32,
     bytes: &[u8],
     table: &mut [u64],
-    column: &mut [u64; 10],
+    column: &mut [u64; 12],
     refusal: &mut [u64; 2],
 ) -> u64
     ensures { λ r. ⌜ Opens (openedUnder sheet (now (bytes .entry)) (length (now (table .entry)) / 4)) r (now (refusal .exit)) (now (column .entry)) (now (column .exit)) (now (table .entry)) (now (table .exit)) ⌝ }
@@ -195,7 +219,7 @@ fn open_as(
 pub extern "C" fn hulemartob_open(
     bytes: &[u8],
     table: &mut [u64],
-    column: &mut [u64; 10],
+    column: &mut [u64; 12],
     refusal: &mut [u64; 2],
 ) -> u64
     ensures { λ r. ⌜ Opens (opened (now (bytes .entry)) (length (now (table .entry)) / 4)) r (now (refusal .exit)) (now (column .entry)) (now (column .exit)) (now (table .entry)) (now (table .exit)) ⌝ }
@@ -209,7 +233,7 @@ pub extern "C" fn hulemartob_open_under(
     sheet: u32,
     bytes: &[u8],
     table: &mut [u64],
-    column: &mut [u64; 10],
+    column: &mut [u64; 12],
     refusal: &mut [u64; 2],
 ) -> u64
     ensures { λ r. ⌜ Opens (openedUnder sheet (now (bytes .entry)) (length (now (table .entry)) / 4)) r (now (refusal .exit)) (now (column .entry)) (now (column .exit)) (now (table .entry)) (now (table .exit)) ⌝ }
@@ -217,10 +241,38 @@ pub extern "C" fn hulemartob_open_under(
     open_as(sheet, bytes, table, column, refusal)
 }
 
-// The value of a row, 0 on refusal.
+// Narrows a column's window to `count` rows from its row `first` on: the column's numbers are then those of the narrowed one.
+#[no_mangle]
+pub extern "C" fn hulemartob_narrow(
+    column: &mut [u64; 12],
+    first: u32,
+    count: u32,
+    refusal: &mut [u64; 2],
+)
+    ensures { λ _. ⌜ Narrows (narrowedFrom (now (column .entry)) first count) (now (refusal .exit)) (now (column .entry)) (now (column .exit)) ⌝ }
+{
+    let opened = match column_from(column) {
+        Made::Column(opened) => opened,
+        Made::Refused(q) => {
+            *refusal = told(q);
+            return;
+        }
+    };
+    match u64_based::narrow(opened, first, count) {
+        Narrowed::Column(narrowed) => {
+            *column = column_numbers(narrowed);
+            *refusal = ACCEPTED;
+        }
+        Narrowed::Refused(q, _) => {
+            *refusal = told(q);
+        }
+    }
+}
+
+// The value of a row of the window, 0 on refusal.
 #[no_mangle]
 pub extern "C" fn hulemartob_row(
-    column: &[u64; 10],
+    column: &[u64; 12],
     table: &[u64],
     bytes: &[u8],
     row: u32,
@@ -235,7 +287,7 @@ pub extern "C" fn hulemartob_row(
             return 0;
         }
     };
-    match u64_based::row(opened, table, bytes, ColumnRow(row)) {
+    match u64_based::row(opened, table, bytes, WindowRow(row)) {
         RowRead::Value(v) => {
             *refusal = ACCEPTED;
             v
@@ -250,7 +302,7 @@ pub extern "C" fn hulemartob_row(
 // How many rows were found, 0 on refusal: those from `first` to `end` whose value lies from `low` to `high`. They are the first entries of `found`.
 #[no_mangle]
 pub extern "C" fn hulemartob_lookup(
-    column: &[u64; 10],
+    column: &[u64; 12],
     table: &[u64],
     bytes: &[u8],
     low: u64,
@@ -284,7 +336,7 @@ pub extern "C" fn hulemartob_lookup(
 // How many values were decoded, 0 on refusal: those of the rows from `first` on, as many as `out` has entries, which they fill.
 #[no_mangle]
 pub extern "C" fn hulemartob_run(
-    column: &[u64; 10],
+    column: &[u64; 12],
     table: &[u64],
     bytes: &[u8],
     first: u32,

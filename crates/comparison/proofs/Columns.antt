@@ -7,7 +7,7 @@
 --     lacks-left, lacks-right            a row of one side only has a line
 -- Assumes nothing.
 use Prim.Native.Nat.{ℕ, _/_, _≤_, _<_, max}
-use mathlib.Core.Path.{_≡_, refl, sym, ap, _∙_}
+use mathlib.Core.Path.{_≡_, refl, sym, ap, _∙_, subst}
 use mathlib.Core.Bool.{Bool, true, false}
 use mathlib.Core.Logic.{_↔_, _⊎_, inl, inr, ⊎-elim}
 use mathlib.Core.List.{List, [], _∷_, _++_}
@@ -15,18 +15,19 @@ use native.Mathlib.Omega.{arith}
 use borrow.Author.Tests.{eqb-true}
 use lib.ListN.{length, replicate, length-replicate}
 use Rattle.format.specs.Outcome.{Outcome, Outcome.value, Outcome.refusal}
-use Rattle.format.specs.Opening.{Loaded}
+use Rattle.format.specs.Opening.{Loaded, opened}
 use Rattle.format.specs.Reading.{rowAt}
+use Rattle.format.specs.Windows.{whole}
 use Rattle.format.specs.Demands.{answered}
 use Rattle.format.specs.Listing.{ascii, namedLine, openedHere}
 use Rattle.format.specs.Comparing.{equalAnswers, compared, comparison}
-use Rattle.format.proofs.Laid.{opened-laid}
+use Rattle.format.proofs.Laid.{opened-laid, opened-whole}
 use Rattle.format.proofs.Lists.{below-or}
 use Rattle.format.proofs.Rows.{own-row}
 use Rattle.text.specs.Chunk.{chunks}
 use Rattle.text.proofs.Chunks.{chunk-within}
 use Rattle.text.proofs.Limits.{here-opened}
-use Rattle.text.proofs.Rows.{here-lacking, here-answers, here-sayable}
+use Rattle.text.proofs.Rows.{here-rows, here-lacking, here-answers, here-sayable}
 use Rattle.comparison.specs.Beginning.{onlyLine}
 use Rattle.comparison.specs.Chunk.{pairMax, textOf, pairChunk, lineCounts}
 use Rattle.comparison.proofs.RowLines.{text-most}
@@ -47,7 +48,9 @@ module _ (s : List ℕ) (o : Loaded) (found : openedHere s ≡ value o) where
   own-by : (table : List ℕ) → length table ≡ 8192 → (r : ℕ) → r < o .column .rows → Own r (reading r)
   own-by table long r h =
       let room : 2048 ≡ length table / 4 = omega arith in
-      rw (← here-answers s o found table (omega arith) r) (own-row s table o (rw (← room) (here-opened s o found)) r h)
+      let opens : opened s (length table / 4) ≡ value o = rw (← room) (here-opened s o found) in
+      rw (← here-answers s o found table (omega arith) r)
+      (subst (λ (l : Loaded). Own r (answered l table s r)) (opened-whole s (length table / 4) o opens) (own-row s table o opens (whole o) (omega arith) r h))
 
   own : (r : ℕ) → r < o .column .rows → Own r (reading r)
   own = own-by (replicate {A = ℕ} 8192 0) (length-replicate {A = ℕ} 8192 0)
@@ -80,9 +83,13 @@ unfolding comparison
 comparison-right s t o number also e f = rw (e, f)
 
 module _ (s t : List ℕ) (o p : Loaded) (e : openedHere s ≡ value o) (f : openedHere t ≡ value p) where
-  -- the rows of either
+  -- the rows of either window
   abbrev rows : ℕ
-  rows = max (o .column .rows) (p .column .rows)
+  rows = max (o .column .window .rows) (p .column .window .rows)
+
+  -- which are all rows of either
+  all : rows ≡ max (o .column .rows) (p .column .rows)
+  all = rw (here-rows s o e, here-rows t p f)
 
   both : comparison s t ≡ compared (rowAt (o .column) (o .table) s) (rowAt (p .column) (p .table) t) rows
   unfolding comparison
@@ -108,7 +115,7 @@ module _ (s t : List ℕ) (o p : Loaded) (e : openedHere s ≡ value o) (f : ope
       let left = opened-laid s 2048 o (here-opened s o e) in
       let right = opened-laid t 2048 p (here-opened t p f) in
       chunk-within (textOf (answered o ltable s) (answered p rtable t)) pairMax rows room r
-      (λ i h. text-most i (answered o ltable s i) (answered p rtable t i) (omega (arith, left .head .few, right .head .few)) (here-sayable s o e ltable l i) (here-sayable t p f rtable m i))
+      (λ i h. text-most i (answered o ltable s i) (answered p rtable t i) (omega (arith, all, left .head .few, right .head .few)) (here-sayable s o e ltable l i) (here-sayable t p f rtable m i))
 
   -- a row of one side only has a line
   pub lacks-left : (x : ℕ) → o .column .rows ≤ x → x < p .column .rows → equalAnswers (rowAt (o .column) (o .table) s x) (rowAt (p .column) (p .table) t x) ≡ false
@@ -124,7 +131,7 @@ module _ (s t : List ℕ) (o p : Loaded) (e : openedHere s ≡ value o) (f : ope
     where
       there : comparison s t ≡ namedLine (ascii "lines ") 0
           → (o .column .rows ≡ p .column .rows) × ((x : ℕ) → x < o .column .rows → rowAt (o .column) (o .table) s x ≡ rowAt (p .column) (p .table) t x)
-      there e0 = (as-many, λ x h. same-own x (rowAt (o .column) (o .table) s x) (rowAt (p .column) (p .table) t x) (own s o e x h) (own t p f x (omega (arith, as-many))) (equal x (omega (arith, as-many))))
+      there e0 = (as-many, λ x h. same-own x (rowAt (o .column) (o .table) s x) (rowAt (p .column) (p .table) t x) (own s o e x h) (own t p f x (omega (arith, as-many))) (equal x (omega (arith, all, as-many))))
         where
           equal : (x : ℕ) → x < rows → equalAnswers (rowAt (o .column) (o .table) s x) (rowAt (p .column) (p .table) t x) ≡ true
           equal = nothing-differs (rowAt (o .column) (o .table) s) (rowAt (p .column) (p .table) t) rows .0 (sym both ∙ e0)
@@ -135,9 +142,9 @@ module _ (s t : List ℕ) (o p : Loaded) (e : openedHere s ≡ value o) (f : ope
           as-many : o .column .rows ≡ p .column .rows
           as-many =
               ⊎-elim
-              (λ fewer. absurd (clash (equal (o .column .rows) (omega arith)) (lacks-left (o .column .rows) (omega arith) fewer)))
+              (λ fewer. absurd (clash (equal (o .column .rows) (omega (arith, all))) (lacks-left (o .column .rows) (omega arith) fewer)))
               (λ least. ⊎-elim
-              (λ more. absurd (clash (equal (p .column .rows) (omega arith)) (lacks-right (p .column .rows) more (omega arith))))
+              (λ more. absurd (clash (equal (p .column .rows) (omega (arith, all))) (lacks-right (p .column .rows) more (omega arith))))
               (λ most. omega arith)
               (below-or (p .column .rows) (o .column .rows)))
               (below-or (o .column .rows) (p .column .rows))
@@ -145,8 +152,8 @@ module _ (s t : List ℕ) (o p : Loaded) (e : openedHere s ≡ value o) (f : ope
       back : (o .column .rows ≡ p .column .rows) × ((x : ℕ) → x < o .column .rows → rowAt (o .column) (o .table) s x ≡ rowAt (p .column) (p .table) t x)
           → comparison s t ≡ namedLine (ascii "lines ") 0
       back h = both ∙ nothing-differs (rowAt (o .column) (o .table) s) (rowAt (p .column) (p .table) t) rows .1
-          (λ x inside. rw (← h .1 x (omega (arith, h .0))) (equal-self (rowAt (o .column) (o .table) s x)))
+          (λ x inside. rw (← h .1 x (omega (arith, all, h .0))) (equal-self (rowAt (o .column) (o .table) s x)))
 
 -- a column compared with itself
 pub comparison-self : (s : List ℕ) (o : Loaded) → openedHere s ≡ value o → comparison s s ≡ namedLine (ascii "lines ") 0
-comparison-self s o e = both s s o o e e ∙ compared-self (rowAt (o .column) (o .table) s) (max (o .column .rows) (o .column .rows))
+comparison-self s o e = both s s o o e e ∙ compared-self (rowAt (o .column) (o .table) s) (max (o .column .window .rows) (o .column .window .rows))

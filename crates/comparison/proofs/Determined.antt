@@ -23,16 +23,16 @@ begin-determined s t ltable rtable line a b left left′ right right′ new new�
     (p .answer ∙ sym (q .answer), p .left-table ∙ sym (q .left-table), p .right-table ∙ sym (q .right-table), p .line ∙ sym (q .line))
 
 -- two answers of `row_count`
-pub row-count-determined : (left right : Column) (a b : ℕ) → a ≡ max (left .rows) (right .rows) → b ≡ max (left .rows) (right .rows) → a ≡ b
+pub row-count-determined : (left right : Column) (a b : ℕ) → a ≡ max (left .window .rows) (right .window .rows) → b ≡ max (left .window .rows) (right .window .rows) → a ≡ b
 row-count-determined left right a b p q = p ∙ sym q
 
 -- two answers of `fill_lines`, and what the lent buffer holds afterwards
 module _ (left : Column) (ltable lbytes : List ℕ) (right : Column) (rtable rbytes : List ℕ) (from : ℕ) (out : List ℕ) where
   abbrev answer : Compared
-  answer = comparedIn (rowAt left ltable lbytes) (rowAt right rtable rbytes) (max (left .rows) (right .rows)) (length out) from
+  answer = comparedIn (rowAt left ltable lbytes) (rowAt right rtable rbytes) (max (left .window .rows) (right .window .rows)) (length out) from
 
   abbrev written : List ℕ
-  written = sets out 0 (pairChunk (rowAt left ltable lbytes) (rowAt right rtable rbytes) (max (left .rows) (right .rows)) (length out) from)
+  written = sets out 0 (pairChunk (rowAt left ltable lbytes) (rowAt right rtable rbytes) (max (left .window .rows) (right .window .rows)) (length out) from)
 
   pub fill-lines-determined : (a b : Compared) (new new′ : List ℕ) → a ≡ answer → b ≡ answer → new ≡ written → new′ ≡ written → (a ≡ b) × (new ≡ new′)
   fill-lines-determined a b new new′ p q n m = (p ∙ sym q, n ∙ sym m)

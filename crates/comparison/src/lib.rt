@@ -62,14 +62,14 @@ pub fn begin(
     Begun::Columns(column, against)
 }
 
-// The rows that a comparison looks at: those of the column that has more.
+// The rows that a comparison looks at: those of the window that has more.
 pub fn row_count(left: Column, right: Column) -> u32
-    ensures { λ r. ⌜ r ≡ max (left .rows) (right .rows) ⌝ }
+    ensures { λ r. ⌜ r ≡ max (left .window .rows) (right .window .rows) ⌝ }
 {
-    if left.rows < right.rows {
-        return right.rows;
+    if left.window.rows < right.window.rows {
+        return right.window.rows;
     }
-    left.rows
+    left.window.rows
 }
 
 // Writes the lines of the rows from `from` on whose answers differ at the start of a buffer, while a longest line has room. Rows with equal answers
@@ -84,8 +84,8 @@ pub fn fill_lines(
     from: u32,
     out: &mut [u8],
 ) -> Compared
-    ensures { λ r. ⌜ r ≡ comparedIn (rowAt left (now (ltable .entry)) (now (lbytes .entry))) (rowAt right (now (rtable .entry)) (now (rbytes .entry))) (max (left .rows) (right .rows)) (length (now (out .entry))) from ⌝ }
-    ensures { λ _. ⌜ now (out .exit) ≡ sets (now (out .entry)) 0 (pairChunk (rowAt left (now (ltable .entry)) (now (lbytes .entry))) (rowAt right (now (rtable .entry)) (now (rbytes .entry))) (max (left .rows) (right .rows)) (length (now (out .entry))) from) ⌝ }
+    ensures { λ r. ⌜ r ≡ comparedIn (rowAt left (now (ltable .entry)) (now (lbytes .entry))) (rowAt right (now (rtable .entry)) (now (rbytes .entry))) (max (left .window .rows) (right .window .rows)) (length (now (out .entry))) from ⌝ }
+    ensures { λ _. ⌜ now (out .exit) ≡ sets (now (out .entry)) 0 (pairChunk (rowAt left (now (ltable .entry)) (now (lbytes .entry))) (rowAt right (now (rtable .entry)) (now (rbytes .entry))) (max (left .window .rows) (right .window .rows)) (length (now (out .entry))) from) ⌝ }
     ensures { λ r. ⌜ Counts (r .bytes) (now (out .exit)) ⌝ }
 {
     let rows = row_count(left, right);

@@ -18,13 +18,14 @@ use Rattle.format.specs.Writing.{written}
 use Rattle.format.specs.Opening.{Loaded, opened}
 use Rattle.format.specs.Sheets.{openedUnder}
 use Rattle.format.specs.Reading.{rowAt}
+use Rattle.format.specs.Windows.{narrowed}
 use Rattle.format.specs.Runs.{decoded}
 use Rattle.format.specs.Lookup.{lookedUp, within}
 use Rattle.format.specs.Listing.{listing, openedHere}
 use Rattle.format.specs.Comparing.{comparison}
 
 -- a number's spelling; bytes and the offset of a field; its width; what a gcd saves over so many rows; the line of four values; codecs, values and room; bytes and blocks; the same, for the spelling;
--- a sheet, bytes and blocks; bytes, blocks and a row; a made-up column, table, bytes and a row; the same with how many rows; bytes, low, high, first, end and room; codecs, values and a row of what was written; bytes in a program;
+-- a sheet, bytes and blocks; bytes, blocks and a row; a made-up column, table, bytes and a row; the same with how many rows; bytes, low, high, first, end and room; the same of a made-up column, with its table; a made-up column, a first row and how many; codecs, values and a row of what was written; bytes in a program;
 -- the listing of bytes; the comparison of two
 pub data Asked : Type 0 where
   spelling : ℕ → Asked
@@ -40,6 +41,8 @@ pub data Asked : Type 0 where
   made : Column → List ℕ → List ℕ → ℕ → Asked
   run : Column → List ℕ → List ℕ → ℕ → ℕ → Asked
   looking : List ℕ → ℕ → ℕ → ℕ → ℕ → ℕ → Asked
+  lookup : Column → List ℕ → List ℕ → ℕ → ℕ → ℕ → ℕ → ℕ → Asked
+  narrowing : Column → ℕ → ℕ → Asked
   returning : List ℕ → List ℕ → ℕ → Asked
   limited : List ℕ → Asked
   text : List ℕ → Asked
@@ -84,8 +87,10 @@ answer (spelled s room) = opened s room >>= (λ (o : Loaded). value (longerAt (o
 answer (sheet n s room) = openedUnder n s room >>= (λ (o : Loaded). value (o .column .rows ∷ []))
 answer (reading s room r) = opened s room >>= (λ (o : Loaded). alone (rowAt (o .column) (o .table) s r))
 answer (made col t s r) = alone (rowAt col t s r)
-answer (run col t s first n) = decoded (rowAt col t s) (col .rows) first n
-answer (looking s low high first end room) = opened s 1 >>= (λ (o : Loaded). lookedUp (rowAt (o .column) (o .table) s) (o .column .rows) (within low high) first end room)
+answer (run col t s first n) = decoded (rowAt col t s) (col .window .rows) first n
+answer (looking s low high first end room) = opened s 1 >>= (λ (o : Loaded). lookedUp (rowAt (o .column) (o .table) s) (o .column .window .rows) (within low high) first end room)
+answer (lookup col t s low high first end room) = lookedUp (rowAt col t s) (col .window .rows) (within low high) first end room
+answer (narrowing col first count) = narrowed col first count >>= (λ (c : Column). value (c .rows ∷ c .window .first ∷ c .window .rows ∷ []))
 answer (returning cs vs r) = written vs cs 5000 >>= (λ (s : List ℕ). opened s 9 >>= (λ (o : Loaded). alone (rowAt (o .column) (o .table) s r)))
 answer (limited s) = openedHere s >>= (λ (o : Loaded). value (numbersOf o))
 answer (text s) = value (listing s)

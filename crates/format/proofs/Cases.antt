@@ -14,6 +14,7 @@ use Rattle.format.specs.Saving.{saving, exponentOf, lastReached, powerBo
 use Rattle.format.specs.Opening.{opened, openBody, openBitpacked, openLinear, openBlockwise, readWidth, readFields, readBlocks}
 use Rattle.format.specs.Sheets.{lastFields, ending, strict, underSheet, openedUnder}
 use Rattle.format.specs.Reading.{rowIn, placeIn, columnFits, rowFits, fits, packedOf, valueIn}
+use Rattle.format.specs.Windows.{narrowed}
 use Rattle.format.specs.Runs.{readRun, decoded}
 use Rattle.format.specs.Lookup.{lookedUp, allRead, rowsPassing}
 use Rattle.format.specs.Listing.{ascii, listing, openedHere, listed, headLine, named, namedLine, decimal, decimalIn, rowLine, rowTexts}
@@ -21,6 +22,7 @@ use Rattle.format.specs.Comparing.{comparison, compared, pairLines, pair
 use Rattle.format.proofs.Asking.{Case, Case._gives_, Asked.spelling, Asked.widthOf, Asked.training, Asked.writing, Asked.reading, Asked.looking, Asked.text, Asked.pair, lineOf, answer, question, said}
 use Rattle.format.proofs.RuleCases.{rules}
 use Rattle.format.proofs.RunCases.{runs}
+use Rattle.format.proofs.WindowCases.{windows}
 use Rattle.format.proofs.LongCases.{longs, upwards, downwards, times}
 
 -- every codec
@@ -69,11 +71,11 @@ marked =
     ∷ (pair (p10 0x08) (p10 0x0C) gives value (ascii "1 30 refused 14\nlines 1\n"))
     ∷ []
 
--- all tables: the marked cases, a case for each rule, long columns
+-- all tables: the marked cases, a case for each rule, runs, windows, long columns
 abbrev pub cases : List Case
-cases = marked ++ (rules ++ (runs ++ longs))
+cases = marked ++ (rules ++ (runs ++ (windows ++ longs)))
 
 -- the definitions give the right answer to each
 pub cases-hold : map (λ (c : Case). answer (question c)) cases ≡ map said cases
-unfolding answer lineOf upwards downwards times spell spellIn scan readVarint width bitLength bitsIn packed bytesOf rowsBits bitsOf numOf unpack statsOf reduce foldFrom gcd euclid spellHead readHead lineAt trained rising height slopeOf nearer residuals residualsFrom spellLine written known chosen sizeOf body bitpacked linear linearLine linearWidth deviations blockwise blocks blocksIn blockArea blockEntry blockWidth blockResiduals joined footer numBytes blockSize blockSizes saving exponentOf lastReached powerBounds reaches inF32 nearest opened openBody openBitpacked openLinear openBlockwise readWidth readFields readBlocks bytesNum lastFields ending strict underSheet rowIn placeIn columnFits rowFits fits packedOf valueIn listing openedHere listed headLine named namedLine decimal decimalIn rowLine rowTexts comparison compared pairLines pairLine readRun decoded lookedUp allRead rowsPassing
+unfolding answer lineOf upwards downwards times spell spellIn scan readVarint width bitLength bitsIn packed bytesOf rowsBits bitsOf numOf unpack statsOf reduce foldFrom gcd euclid spellHead readHead lineAt trained rising height slopeOf nearer residuals residualsFrom spellLine written known chosen sizeOf body bitpacked linear linearLine linearWidth deviations blockwise blocks blocksIn blockArea blockEntry blockWidth blockResiduals joined footer numBytes blockSize blockSizes saving exponentOf lastReached powerBounds reaches inF32 nearest opened openBody openBitpacked openLinear openBlockwise readWidth readFields readBlocks bytesNum lastFields ending strict openedUnder rowIn placeIn columnFits rowFits fits packedOf valueIn listing openedHere listed headLine named namedLine decimal decimalIn rowLine rowTexts comparison compared pairLines pairLine readRun decoded lookedUp allRead rowsPassing narrowed
 cases-hold = refl

@@ -22,7 +22,7 @@ use Rattle.format.specs.Lookup.{lookedUp, within}
 use Rattle.format.specs.Demands.{Returns, Accepts, Demand2, GivesBack, answered}
 use Rattle.format.proofs.Outcomes.{value-same}
 use Rattle.format.proofs.Lookups.{foundIn, looked-up}
-use Rattle.format.proofs.RoundTrip.{RoundTrips, gives-back}
+use Rattle.format.proofs.RoundTrip.{RoundTrips, window-back, gives-back}
 use Rattle.format.proofs.Writes.{written-as, never-needless}
 use Rattle.format.proofs.Bitpacked.{bitpacked-round}
 use Rattle.format.proofs.Linear.{linear-round}
@@ -41,7 +41,7 @@ returns vs cs bytes table room each e enough =
     let w = written-as vs cs bytes room e in
     let back = any-codec (w .codec) (w .known) vs each (w .few) (w .applies) in
     let g = gives-back back table enough in
-    rw (w .is) (back .loaded, g .0, g .1)
+    rw (w .is) (back .loaded, g .0, g .1, window-back back table enough)
 
 -- its numbers are spelled as short as can be
 pub written-shortest : (vs cs bytes table : List ℕ) (room : ℕ) → AllBelow (2 ^ 64) vs → written vs cs room ≡ value bytes → 4 * blockCount (length vs) ≤ length table
@@ -81,7 +81,7 @@ demand2 = (returns, accepts)
 -- a lookup in what came back tells the rows of the run, cut to the list, whose value lies in the range (Lookups.exactly and Lookups.ascends: exactly those, ascending), wherever the
 -- list for them has room; and how many they are where it has not
 pub found-rows : (vs bytes table : List ℕ) (o : Loaded) → GivesBack vs bytes table o → (low high first end room : ℕ)
-    → lookedUp (answered o table bytes) (o .column .rows) (within low high) first end room
+    → lookedUp (answered o table bytes) (o .column .window .rows) (within low high) first end room
     ≡ (demand (leb (length (foundIn vs (within low high) first (min end (length vs) - first))) room) 15 (length (foundIn vs (within low high) first (min end (length vs) - first)) ∷ [])
     >> value (foundIn vs (within low high) first (min end (length vs) - first)))
 found-rows vs bytes table o g low high first end room = g .found low high first end room ∙ looked-up vs (within low high) first end room

@@ -2,20 +2,22 @@
 --     rows-inside, rows-apart, rows-tell, demand3
 --     rows-told                                          the same of two openings that are one, wherever else the bytes differ
 -- Assumes nothing.
-use Prim.Native.Nat.{ℕ, _/_, _≤_, _<_}
+use Prim.Native.Nat.{ℕ, _+_, _/_, _≤_, _<_}
 use mathlib.Core.Path.{_≡_, refl, sym, ap, _∙_, subst}
 use mathlib.Core.Logic.{⊎-elim}
 use mathlib.Core.List.{List}
 use native.Mathlib.Omega.{arith}
 use lib.ListN.{length}
+use Rattle.format.specs.declared.Window.{Window}
 use Rattle.format.specs.Outcome.{Outcome.value}
 use Rattle.format.specs.Opening.{Loaded, opened}
-use Rattle.format.specs.Reading.{packedOf, valueIn, blockAt}
-use Rattle.format.specs.Demands.{Owns, Inside, Apart, SameBits, answered, Differ, RowsTell, Tell, Demand3}
+use Rattle.format.specs.Reading.{packedOf, valueIn, blockAt, askedAs}
+use Rattle.format.specs.Windows.{inWindow}
+use Rattle.format.specs.Demands.{Owns, Inside, Apart, SameBits, answered, LiesIn, Differ, RowsTell, Tell, Demand3}
 use Rattle.format.proofs.Lists.{below-or}
-use Rattle.format.proofs.Laid.{opened-laid}
-use Rattle.format.proofs.Elsewhere.{opened-same, alike-fields}
-use Rattle.format.proofs.Rows.{answer-is, packed-same, bits-same, packed-small, value-tells}
+use Rattle.format.proofs.Laid.{opened-laid, laid-in}
+use Rattle.format.proofs.Elsewhere.{opened-same}
+use Rattle.format.proofs.Rows.{valueOf, answer-is, packed-same, bits-same, packed-small, value-tells}
 
 -- ---- where rows' bits lie
 
@@ -43,27 +45,33 @@ rows-apart s room o e q r k hq hr mine others =
 
 -- ---- what a row's answer depends on
 
--- two byte strings whose openings are one
+-- two byte strings whose openings are one; a row of a window
 module _ (s t table other : List ℕ) (o : Loaded) (so : opened s (length table / 4) ≡ value o) (to : opened t (length other / 4) ≡ value o)
-    (len : length s ≡ length t) (r : ℕ) (h : r < o .column .rows) where
-  from-s : answered o table s r ≡ valueIn (o .column .codec) (o .column) (blockAt (o .table) (r / 512)) r (packedOf (o .column) (blockAt (o .table) (r / 512)) s r)
-  from-s = answer-is (opened-laid s (length table / 4) o so) s (omega arith) r h table (omega arith)
+    (len : length s ≡ length t) (w : Window) (inside : LiesIn w o) (r : ℕ) (h : r < w .rows) where
+  -- the column, seen through the window
+  abbrev seen : Loaded
+  seen = inWindow o w
 
-  from-t : answered o other t r ≡ valueIn (o .column .codec) (o .column) (blockAt (o .table) (r / 512)) r (packedOf (o .column) (blockAt (o .table) (r / 512)) t r)
-  from-t = answer-is (opened-laid t (length other / 4) o to) t (omega arith) r h other (omega arith)
+  from-s : answered seen table s r ≡ askedAs r (valueOf seen s (w .first + r))
+  from-s = answer-is (laid-in (opened-laid s (length table / 4) o so) w inside) s (omega arith) r h table (omega arith)
 
-  bits-agree : SameBits o s t r → answered o table s r ≡ answered o other t r
+  from-t : answered seen other t r ≡ askedAs r (valueOf seen t (w .first + r))
+  from-t = answer-is (laid-in (opened-laid t (length other / 4) o to) w inside) t (omega arith) r h other (omega arith)
+
+  bits-agree : SameBits o s t (w .first + r) → answered seen table s r ≡ answered seen other t r
   bits-agree same =
-      from-s ∙ ap (λ (n : ℕ). valueIn (o .column .codec) (o .column) (blockAt (o .table) (r / 512)) r n) (packed-same o s t len r same) ∙ sym from-t
+      let q = w .first + r in
+      from-s ∙ ap (λ (n : ℕ). askedAs r (valueIn (o .column .codec) (seen .column) (blockAt (o .table) (q / 512)) q n)) (packed-same seen s t len q same) ∙ sym from-t
 
-  bits-differ : (SameBits o s t r → ⊥) → Differ r (answered o table s r) (answered o other t r)
+  bits-differ : (SameBits o s t (w .first + r) → ⊥) → Differ r (answered seen table s r) (answered seen other t r)
   bits-differ differs =
-      let laid = opened-laid s (length table / 4) o so in
-      let lawful = laid .rows .lawful r h in
+      let q = w .first + r in
+      let laid = laid-in (opened-laid s (length table / 4) o so) w inside in
+      let lawful = laid .rows .lawful q (omega arith) in
       rw (from-s, from-t)
-      (value-tells (o .column .codec) (o .column) (blockAt (o .table) (r / 512)) r (packedOf (o .column) (blockAt (o .table) (r / 512)) s r) (packedOf (o .column) (blockAt (o .table) (r / 512)) t r)
-      (laid .head .step) (packed-small o s r lawful) (packed-small o t r lawful)
-      (λ e. differs (bits-same o s t len r e)))
+      (value-tells (o .column .codec) (seen .column) (blockAt (o .table) (q / 512)) r q (packedOf (seen .column) (blockAt (o .table) (q / 512)) s q) (packedOf (seen .column) (blockAt (o .table) (q / 512)) t q)
+      (laid .head .step) (packed-small seen s q lawful) (packed-small seen t q lawful)
+      (λ e. differs (bits-same seen s t len q e)))
 
 -- two openings that are one tell rows apart by their bits
 pub rows-told : (s t table other : List ℕ) (o p : Loaded) → opened s (length table / 4) ≡ value o → opened t (length other / 4) ≡ value p
@@ -72,8 +80,8 @@ rows-told s t table other o p so tp long same =
     let to : opened t (length other / 4) ≡ value o = tp ∙ ap (λ (q : Loaded). value q) (sym same) in
     subst (λ (q : Loaded). RowsTell s t table other o q) same (record {
       same = refl;
-      agree = λ (r : ℕ) (h : r < o .column .rows). bits-agree s t table other o so to long r h;
-      differ = λ (r : ℕ) (h : r < o .column .rows). bits-differ s t table other o so to long r h;
+      agree = λ (w : Window) (inside : LiesIn w o) (r : ℕ) (h : r < w .rows). bits-agree s t table other o so to (a .long) w inside r h;
+      differ = λ (w : Window) (inside : LiesIn w o) (r : ℕ) (h : r < w .rows). bits-differ s t table other o so to (a .long) w inside r h;
     })
 
 pub rows-tell : Tell

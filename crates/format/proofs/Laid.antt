@@ -1,6 +1,8 @@
 -- How the rows of an opened column lie: legal widths, inside the area, one after another. One statement for the three codecs.
 --     firstBit, endBit, RowsLaid, HeadLaid, Laid                    where the rows of a codec lie; bounds, area and table of an opened column
 --     bitpacked-laid, linear-laid, blockwise-laid, opened-laid      what opens is laid so
+--     laid-in                                                       so is every window in it
+--     opened-whole                                                  opening sets the whole column
 --     block-starts                                                  in a Blockwise column, block b starts at the sum of 64 · width over the blocks before it
 -- Assumes nothing.
 use Prim.Native.Nat.{ℕ, _+_, _*_, _/_, _%_, _^_, _≤_, _<_}
@@ -14,6 +16,7 @@ use borrow.Author.Tests.{lt-ltb}
 use Rattle.format.specs.declared.Codec.{Codec}
 use Rattle.format.specs.declared.Codec.the-variants.{Bitpacked, Linear, Blockwise}
 use Rattle.format.specs.declared.Column.{Column}
+use Rattle.format.specs.declared.Window.{Window}
 use Rattle.format.specs.declared.Place.{Place}
 use Rattle.format.specs.declared.Fields.{Fields}
 use Rattle.format.specs.declared.Head.{Head}
@@ -23,6 +26,8 @@ use Rattle.format.specs.Packing.{width, legal}
 use Rattle.format.specs.Bodies.{blockCount}
 use Rattle.format.specs.Opening.{columnOf, Loaded, Table, opened}
 use Rattle.format.specs.Reading.{placeIn, hasBlock, blockAt}
+use Rattle.format.specs.Windows.{inWindow, whole}
+use Rattle.format.specs.Demands.{LiesIn}
 use Rattle.format.proofs.Lists.{below-or}
 use Rattle.format.proofs.Packing.{row-inside, row-before}
 use Rattle.format.proofs.Widths.{width-legal}
@@ -61,6 +66,7 @@ pub record Laid (long room : ℕ) (o : Loaded) : Type 0 where
   pub area : o .column .start + o .column .size ≤ long
   pub table : length (o .table) ≤ 4 * room
   pub rows : RowsLaid (o .column .codec) (o .column .count) (o .column .rows) (o .column .size) (o .table)
+  pub window : LiesIn (o .column .window) o
 
 -- ---- one run of numbers of w bits
 
@@ -123,7 +129,7 @@ opened-laid s room = by-opening (λ (o : Loaded). Laid (length s) room o) s room
     ofBitpacked : (h : Head) → OpensBitpacked s h → Laid (length s) room (bitpackedOf h)
     ofBitpacked h f =
         let head = head-read s h (f .begun .head) in
-        record { head = head-laid head _ _ _; start = head .some; area = f .area; table = omega arith; rows = bitpacked-laid (h .count) (h .rows) }
+        record { head = head-laid head _ _ _; start = head .some; area = f .area; table = omega arith; rows = bitpacked-laid (h .count) (h .rows); window = omega arith }
 
     ofLinear : (h : Head) (g : Fields) → OpensLinear s h g → Laid (length s) room (linearOf h g)
     ofLinear h g f =
@@ -135,6 +141,7 @@ opened-laid s room = by-opening (λ (o : Loaded). Laid (length s) room o) s room
           area = f .area;
           table = omega arith;
           rows = linear-laid (h .count) (h .rows) g (line .lawful);
+          window = omega arith;
         }
 
     ofBlockwise : (h : Head) (t : Table) → OpensBlockwise s h room t → Laid (length s) room (blockwiseOf h t)
@@ -147,7 +154,34 @@ opened-laid s room = by-opening (λ (o : Loaded). Laid (length s) room o) s room
           area = omega (arith, f .area);
           table = omega (arith, blocks .long, f .enough);
           rows = blockwise-laid blocks (h .count);
+          window = omega arith;
         }
+
+-- so is every window in it
+pub laid-in : {long room : ℕ} {o : Loaded} → Laid long room o → (w : Window) → LiesIn w o → Laid long room (inWindow o w)
+laid-in laid w h = record {
+  head = record {
+    minimum = laid .head .minimum;
+    gcd = laid .head .gcd;
+    count = laid .head .count;
+    step = laid .head .step;
+    bounds = laid .head .bounds;
+    few = laid .head .few;
+  };
+  start = laid .start;
+  area = laid .area;
+  table = laid .table;
+  rows = laid .rows;
+  window = h;
+}
+
+-- opening sets the whole column
+pub opened-whole : (s : List ℕ) (room : ℕ) (o : Loaded) → opened s room ≡ value o → inWindow o (whole o) ≡ o
+opened-whole s room =
+    by-opening (λ (o : Loaded). inWindow o (whole o) ≡ o) s room
+    (λ (h : Head) (f : OpensBitpacked s h). refl)
+    (λ (h : Head) (g : Fields) (f : OpensLinear s h g). refl)
+    (λ (h : Head) (t : Table) (f : OpensBlockwise s h room t). refl)
 
 -- in a Blockwise column, block b starts at the sum of 64 · width over the blocks before it
 pub block-starts : (s : List ℕ) (room : ℕ) (o : Loaded) → opened s room ≡ value o → o .column .codec ≡ Blockwise

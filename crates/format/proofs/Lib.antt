@@ -27,6 +27,8 @@ pub mod Laid
 pub mod Parts
 pub mod Elsewhere
 pub mod Rows
+pub mod Windows
+pub mod WindowRuns
 pub mod Runs
 pub mod Owning
 pub mod Lookups
@@ -64,6 +66,7 @@ pub mod MostBytes
 pub mod Asking
 pub mod RuleCases
 pub mod RunCases
+pub mod WindowCases
 pub mod LongCases
 pub mod Cases
 pub mod TypedCases

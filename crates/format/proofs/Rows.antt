@@ -1,9 +1,9 @@
--- Reading a row of an opened column: never 12 nor 13; what the answer depends on; that another packed number answers otherwise.
+-- Reading a row of a window of an opened column: never 12 nor 13; what the answer depends on; that another packed number answers otherwise.
 --     filled-block, filled-row                     a block of a lent table that was filled; reading through a lent table that was filled is reading through the opening's own numbers
---     row-fits, row-answers, answer-is             column, table and bytes fit; the answer is the value of the packed number, or 14
+--     row-there, row-fits, row-answers, answer-is  column, table and bytes fit; the answer is the value of the packed number, or 14
 --     packed-same, bits-same, packed-small         a row's packed number and its bits
 --     value-tells                                  another packed number answers otherwise, unless both answers are 14
---     own-row                                      a row of an opened column, read with the table that its opening filled, has a value or is refused 14
+--     ValueOr14, value-or-14, own-row                           a row of any window in an opened column, read with the table that its opening filled, has a value or is refused 14
 -- Assumes nothing.
 use Prim.Native.Nat.{ℕ, _+_, _-_, _*_, _/_, _%_, _^_, _≤_, _<_}
 use mathlib.Core.Path.{_≡_, refl, sym, ap, _∙_, subst}
@@ -19,19 +19,21 @@ use borrow.Author.Tests.{ltb-true, lt-ltb, le-leb}
 use Rattle.format.specs.declared.Codec.{Codec}
 use Rattle.format.specs.declared.Codec.the-variants.{Bitpacked, Linear, Blockwise}
 use Rattle.format.specs.declared.Column.{Column}
+use Rattle.format.specs.declared.Window.{Window}
 use Rattle.format.specs.declared.Place.{Place}
 use Rattle.format.specs.declared.Block.{Block}
-use Rattle.format.specs.Outcome.{Outcome.value, Outcome.refusal, _>>_, demand}
+use Rattle.format.specs.Outcome.{Outcome, Outcome.value, Outcome.refusal, _>>_, demand}
 use Rattle.format.specs.Word.{modAdd}
 use Rattle.format.specs.Packing.{legal, bitAt}
 use Rattle.format.specs.Line.{lineAt}
 use Rattle.format.specs.Opening.{Loaded, opened}
-use Rattle.format.specs.Reading.{placeIn, placeOf, blockAt, hasBlock, columnFits, rowFits, fits, packedOf, valueIn, rowIn, rowAt}
-use Rattle.format.specs.Demands.{filledBy, answered, Owns, SameBits, Differ}
+use Rattle.format.specs.Reading.{columnRow, placeIn, placeOf, blockAt, hasBlock, columnFits, rowFits, fits, packedOf, valueIn, valueAt, askedAs, rowIn, rowAt}
+use Rattle.format.specs.Windows.{windowed, inWindow}
+use Rattle.format.specs.Demands.{filledBy, answered, LiesIn, Owns, SameBits, Differ}
 use Rattle.format.proofs.Outcomes.{told-apart}
 use Rattle.format.proofs.Packing.{unpack-below, locality, row-bits, bitAt-drop}
 use Rattle.format.proofs.Widths.{legal-most}
-use Rattle.format.proofs.Laid.{Laid, opened-laid}
+use Rattle.format.proofs.Laid.{Laid, opened-laid, laid-in}
 
 -- ---- a table in a lent list
 
@@ -51,25 +53,26 @@ filled-block table xs b fit h =
     )
 
 -- tables of however many blocks that have a row's block read it alike
-counted-alike : (col : Column) (b : Block) (s : List ℕ) (r blocks more : ℕ) → hasBlock (col .codec) blocks r ≡ true → hasBlock (col .codec) more r ≡ true
+counted-alike : (col : Column) (b : Block) (s : List ℕ) (r blocks more : ℕ) → hasBlock (col .codec) blocks (columnRow col r) ≡ true → hasBlock (col .codec) more (columnRow col r) ≡ true
     → rowIn col blocks b s r ≡ rowIn col more b s r
 unfolding rowIn fits rowFits
 counted-alike col b s r blocks more here there = rw (here, there)
 
 -- one codec's reading through a lent table that was filled
-filled-reading : (col : Column) (codec : Codec) → col .codec ≡ codec → (table xs s : List ℕ) (r : ℕ) → length xs ≤ length table → hasBlock codec (length xs / 4) r ≡ true
+filled-reading : (col : Column) (codec : Codec) → col .codec ≡ codec → (table xs s : List ℕ) (r : ℕ) → length xs ≤ length table → hasBlock codec (length xs / 4) (columnRow col r) ≡ true
     → rowAt col (sets table 0 xs) s r ≡ rowAt col xs s r
 unfolding rowIn fits rowFits packedOf placeIn valueIn
 filled-reading col Bitpacked e table xs s r fit there = rw e
 filled-reading col (Linear l w) e table xs s r fit there = rw e
 filled-reading col Blockwise e table xs s r fit there =
-    let inside : r / 512 < length xs / 4 = ltb-true (r / 512) (length xs / 4) there in
-    let after : ltb (r / 512) (length (sets table 0 xs) / 4) ≡ true = lt-ltb (r / 512) (length (sets table 0 xs) / 4) (omega (arith, length-sets table 0 xs)) in
-    ap (λ (b : Block). rowIn col (length (sets table 0 xs) / 4) b s r) (filled-block table xs (r / 512) fit inside)
-    ∙ counted-alike col (blockAt xs (r / 512)) s r (length (sets table 0 xs) / 4) (length xs / 4) (rw e after) (rw e there)
+    let k = columnRow col r / 512 in
+    let inside : k < length xs / 4 = ltb-true k (length xs / 4) there in
+    let after : ltb k (length (sets table 0 xs) / 4) ≡ true = lt-ltb k (length (sets table 0 xs) / 4) (omega (arith, length-sets table 0 xs)) in
+    ap (λ (b : Block). rowIn col (length (sets table 0 xs) / 4) b s r) (filled-block table xs k fit inside)
+    ∙ counted-alike col (blockAt xs k) s r (length (sets table 0 xs) / 4) (length xs / 4) (rw e after) (rw e there)
 
 -- reading through a lent table that was filled is reading through the opening's own numbers: entries past them do not matter
-pub filled-row : (o : Loaded) (table s : List ℕ) (r : ℕ) → length (o .table) ≤ length table → hasBlock (o .column .codec) (length (o .table) / 4) r ≡ true
+pub filled-row : (o : Loaded) (table s : List ℕ) (r : ℕ) → length (o .table) ≤ length table → hasBlock (o .column .codec) (length (o .table) / 4) (columnRow (o .column) r) ≡ true
     → rowAt (o .column) (filledBy o table) s r ≡ rowAt (o .column) (o .table) s r
 filled-row o table s r fit there = filled-reading (o .column) (o .column .codec) refl table (o .table) s r fit there
 
@@ -79,31 +82,43 @@ or-true : (t : Bool) → (t || true) ≡ true
 or-true true = refl
 or-true false = refl
 
-module _ {long room : ℕ} {o : Loaded} (laid : Laid long room o) (s : List ℕ) (fit : long ≤ length s) (r : ℕ) (h : r < o .column .rows) where
+-- the value of a row of the column, by its packed number
+abbrev pub valueOf : Loaded → (s : List ℕ) (q : ℕ) → Outcome ℕ
+valueOf o s q = valueAt (o .column) (blockAt (o .table) (q / 512)) s q
+
+module _ {long room : ℕ} {o : Loaded} (laid : Laid long room o) (s : List ℕ) (fit : long ≤ length s) (r : ℕ) (h : r < o .column .window .rows) where
+  -- the column's row
+  abbrev at : ℕ
+  at = columnRow (o .column) r
+
+  -- it is one of the column's
+  pub row-there : at < o .column .rows
+  row-there = omega (arith, laid .window)
+
   -- column, table and bytes fit together
-  pub row-fits : fits (o .column) (length (o .table) / 4) (blockAt (o .table) (r / 512)) s r ≡ true
+  pub row-fits : fits (o .column) (length (o .table) / 4) (blockAt (o .table) (at / 512)) s at ≡ true
   unfolding fits columnFits rowFits
   row-fits =
-      let p = placeOf (o .column) (blockAt (o .table) (r / 512)) r in
+      let p = placeOf (o .column) (blockAt (o .table) (at / 512)) at in
       rw (
+        le-leb (o .column .window .first + o .column .window .rows) (o .column .rows) (laid .window),
         lt-ltb 0 (o .column .gcd) (laid .head .step),
         lt-ltb (o .column .minimum + o .column .count * o .column .gcd) (2 ^ 64) (laid .head .bounds),
-        laid .rows .present r h,
-        laid .rows .lawful r h,
+        laid .rows .present at row-there,
+        laid .rows .lawful at row-there,
         le-leb (o .column .start + o .column .size) (length s) (omega (arith, laid .area)),
-        le-leb (8 * p .start + (p .row + 1) * p .bits) (8 * o .column .size) (laid .rows .inside r h),
+        le-leb (8 * p .start + (p .row + 1) * p .bits) (8 * o .column .size) (laid .rows .inside at row-there),
       )
       (or-true (eqb (p .bits) 0))
 
   -- so its answer is the value of its packed number, or 14
-  pub row-answers : rowAt (o .column) (o .table) s r ≡ valueIn (o .column .codec) (o .column) (blockAt (o .table) (r / 512)) r (packedOf (o .column) (blockAt (o .table) (r / 512)) s r)
+  pub row-answers : rowAt (o .column) (o .table) s r ≡ askedAs r (valueOf o s at)
   unfolding rowIn
-  row-answers = rw (lt-ltb r (o .column .rows) h, row-fits)
+  row-answers = rw (lt-ltb r (o .column .window .rows) h, row-fits)
 
   -- the same through a lent table that the opening filled
-  pub answer-is : (table : List ℕ) → 4 * room ≤ length table
-      → answered o table s r ≡ valueIn (o .column .codec) (o .column) (blockAt (o .table) (r / 512)) r (packedOf (o .column) (blockAt (o .table) (r / 512)) s r)
-  answer-is table enough = filled-row o table s r (omega (arith, laid .table)) (laid .rows .present r h) ∙ row-answers
+  pub answer-is : (table : List ℕ) → 4 * room ≤ length table → answered o table s r ≡ askedAs r (valueOf o s at)
+  answer-is table enough = filled-row o table s r (omega (arith, laid .table)) (laid .rows .present at row-there) ∙ row-answers
 
 -- ---- a row's packed number and its bits
 
@@ -163,45 +178,59 @@ add-apart a n m hn hm e = omega arith
 scale-apart : (low step n m : ℕ) → 0 < step → low + step * n ≡ low + step * m → n ≡ m
 scale-apart low step n m some e = eq-of-mul-eq-mul-left step some n m (omega arith)
 
+-- the row named as it was asked for
+asked-demand : (test : Bool) (r q v : ℕ) → askedAs r (demand test 14 (q ∷ []) >> value v) ≡ (demand test 14 (r ∷ []) >> value v)
+asked-demand true r q v = refl
+asked-demand false r q v = refl
+
+-- two tested values
+told-asked : (s t : Bool) (r q x y : ℕ) → (x ≡ y → ⊥) → Differ r (askedAs r (demand s 14 (q ∷ []) >> value x)) (askedAs r (demand t 14 (q ∷ []) >> value y))
+told-asked s t r q x y d = rw (asked-demand s r q x, asked-demand t r q y) (told-apart s t 14 (r ∷ []) x y d)
+
 -- so does a row's value
-pub value-tells : (codec : Codec) (col : Column) (b : Block) (r n m : ℕ) → 0 < col .gcd → n < 2 ^ 64 → m < 2 ^ 64 → (n ≡ m → ⊥)
-    → Differ r (valueIn codec col b r n) (valueIn codec col b r m)
+pub value-tells : (codec : Codec) (col : Column) (b : Block) (r q n m : ℕ) → 0 < col .gcd → n < 2 ^ 64 → m < 2 ^ 64 → (n ≡ m → ⊥)
+    → Differ r (askedAs r (valueIn codec col b q n)) (askedAs r (valueIn codec col b q m))
 unfolding valueIn
-value-tells Bitpacked col b r n m some hn hm d =
-    told-apart (leb n (col .count)) (leb m (col .count)) 14 (r ∷ []) (col .minimum + col .gcd * n) (col .minimum + col .gcd * m)
+value-tells Bitpacked col b r q n m some hn hm d =
+    told-asked (leb n (col .count)) (leb m (col .count)) r q (col .minimum + col .gcd * n) (col .minimum + col .gcd * m)
     (λ e. d (scale-apart (col .minimum) (col .gcd) n m some e))
-value-tells (Linear l w) col b r n m some hn hm d =
-    let x = modAdd (lineAt l r) n in
-    let y = modAdd (lineAt l r) m in
-    told-apart (leb (col .minimum) x && leb x (col .minimum + col .gcd * col .count)) (leb (col .minimum) y && leb y (col .minimum + col .gcd * col .count))
-    14 (r ∷ []) x y (λ e. d (add-apart (lineAt l r) n m hn hm e))
-value-tells Blockwise col b r n m some hn hm d =
-    let x = modAdd (lineAt (b .line) (r % 512)) n in
-    let y = modAdd (lineAt (b .line) (r % 512)) m in
-    told-apart (leb x (col .count)) (leb y (col .count)) 14 (r ∷ []) (col .minimum + col .gcd * x) (col .minimum + col .gcd * y)
-    (λ e. d (add-apart (lineAt (b .line) (r % 512)) n m hn hm (scale-apart (col .minimum) (col .gcd) x y some e)))
+value-tells (Linear l w) col b r q n m some hn hm d =
+    let x = modAdd (lineAt l q) n in
+    let y = modAdd (lineAt l q) m in
+    told-asked (leb (col .minimum) x && leb x (col .minimum + col .gcd * col .count)) (leb (col .minimum) y && leb y (col .minimum + col .gcd * col .count))
+    r q x y (λ e. d (add-apart (lineAt l q) n m hn hm e))
+value-tells Blockwise col b r q n m some hn hm d =
+    let x = modAdd (lineAt (b .line) (q % 512)) n in
+    let y = modAdd (lineAt (b .line) (q % 512)) m in
+    told-asked (leb x (col .count)) (leb y (col .count)) r q (col .minimum + col .gcd * x) (col .minimum + col .gcd * y)
+    (λ e. d (add-apart (lineAt (b .line) (q % 512)) n m hn hm (scale-apart (col .minimum) (col .gcd) x y some e)))
 
 -- ---- what a row of an opened column can answer
 
+-- a value, or 14 for the row as it was asked for
+abbrev pub ValueOr14 : (r : ℕ) → Outcome ℕ → Type 0
+ValueOr14 r o = ((v : ℕ) × (o ≡ value v)) ⊎ (o ≡ refusal 14 (r ∷ []))
+
 -- a tested value
-tested : (test : Bool) (r v : ℕ) → ((w : ℕ) × ((demand test 14 (r ∷ []) >> value v) ≡ value w)) ⊎ ((demand test 14 (r ∷ []) >> value v) ≡ refusal 14 (r ∷ []))
-tested true r v = inl (v, refl)
-tested false r v = inr refl
+tested : (test : Bool) (r q v : ℕ) → ValueOr14 r (askedAs r (demand test 14 (q ∷ []) >> value v))
+tested true r q v = inl (v, refl)
+tested false r q v = inr refl
 
-value-or-14 : (codec : Codec) (col : Column) (b : Block) (r n : ℕ)
-    → ((v : ℕ) × (valueIn codec col b r n ≡ value v)) ⊎ (valueIn codec col b r n ≡ refusal 14 (r ∷ []))
+-- so is each row's
+pub value-or-14 : (codec : Codec) (col : Column) (b : Block) (r q n : ℕ) → ValueOr14 r (askedAs r (valueIn codec col b q n))
 unfolding valueIn
-value-or-14 Bitpacked col b r n = tested (leb n (col .count)) r (col .minimum + col .gcd * n)
-value-or-14 (Linear l w) col b r n =
-    let v = modAdd (lineAt l r) n in
-    tested (leb (col .minimum) v && leb v (col .minimum + col .gcd * col .count)) r v
-value-or-14 Blockwise col b r n =
-    let m = modAdd (lineAt (b .line) (r % 512)) n in
-    tested (leb m (col .count)) r (col .minimum + col .gcd * m)
+value-or-14 Bitpacked col b r q n = tested (leb n (col .count)) r q (col .minimum + col .gcd * n)
+value-or-14 (Linear l w) col b r q n =
+    let v = modAdd (lineAt l q) n in
+    tested (leb (col .minimum) v && leb v (col .minimum + col .gcd * col .count)) r q v
+value-or-14 Blockwise col b r q n =
+    let m = modAdd (lineAt (b .line) (q % 512)) n in
+    tested (leb m (col .count)) r q (col .minimum + col .gcd * m)
 
--- read with the table that its opening filled, it has a value or is refused 14: never 12, never 13
-pub own-row : (s table : List ℕ) (o : Loaded) → opened s (length table / 4) ≡ value o → (r : ℕ) → r < o .column .rows
-    → ((v : ℕ) × (answered o table s r ≡ value v)) ⊎ (answered o table s r ≡ refusal 14 (r ∷ []))
-own-row s table o e r h =
-    rw (answer-is (opened-laid s (length table / 4) o e) s (omega arith) r h table (omega arith))
-    (value-or-14 (o .column .codec) (o .column) (blockAt (o .table) (r / 512)) r (packedOf (o .column) (blockAt (o .table) (r / 512)) s r))
+-- a row of any window in it, read with the table that its opening filled, has a value or is refused 14: never 12, never 13
+pub own-row : (s table : List ℕ) (o : Loaded) → opened s (length table / 4) ≡ value o → (w : Window) → LiesIn w o → (r : ℕ) → r < w .rows
+    → ValueOr14 r (answered (inWindow o w) table s r)
+own-row s table o e w inside r h =
+    rw (answer-is (laid-in (opened-laid s (length table / 4) o e) w inside) s (omega arith) r h table (omega arith))
+    (value-or-14 (o .column .codec) (windowed (o .column) w) (blockAt (o .table) ((w .first + r) / 512)) r (w .first + r)
+    (packedOf (windowed (o .column) w) (blockAt (o .table) ((w .first + r) / 512)) s (w .first + r)))

@@ -9,7 +9,7 @@ use Rattle.format.proofs.Asking.{Case, Case._gives_, Asked.run}
 
 -- numbers of two bits in the sixth byte, above 10 in steps of the gcd; so many rows
 abbrev steps : (gcd rows : ℕ) → Column
-steps gcd rows = record { minimum = 10; gcd = gcd; count = 2; rows = rows; start = 5; size = 1; codec = Bitpacked }
+steps gcd rows = record { minimum = 10; gcd = gcd; count = 2; rows = rows; start = 5; size = 1; window = record { first = 0; rows = rows }; codec = Bitpacked }
 
 -- P9's bytes, with its packed byte
 abbrev bytes : ℕ → List ℕ

@@ -3,16 +3,19 @@
 --     stored-is, stored-there      a word that is read as the number that it is stored as
 --     stored-fits, stored-words    each has 64 bits
 --     stored-numbers               the words of a column of numbers are themselves
+--     stored-shown                 the part that a window shows
 -- Assumes nothing.
 use mathlib.Core.Path.{_≡_, refl, sym, ap, _∙_}
-use mathlib.Core.List.{List, [], _∷_}
-use Prim.Native.Nat.{ℕ, _^_, _<_}
+use mathlib.Core.List.{List, [], _∷_, map}
+use Prim.Native.Nat.{ℕ, zero, suc, _^_, _<_}
 use lib.Dec.{ltb}
-use lib.ListN.{length, getD, length-map}
+use lib.ListN.{length, take, drop, getD, length-map}
 use Rattle.format.specs.declared.Kind.{Kind}
+use Rattle.format.specs.declared.Window.{Window}
 use Rattle.format.specs.declared.Kind.the-variants.{U64, I64, Date, Bool as Flag, F64}
 use Rattle.format.specs.Word.{AllBelow}
 use Rattle.format.specs.Typed.{storedIn, storedAs, signedBits}
+use Rattle.format.specs.Demands.{shown}
 use Rattle.format.proofs.Lists.{map-at}
 use Rattle.format.proofs.Mappings.{signed-fits, bits-in, flag-fits, float-fits}
 
@@ -49,3 +52,17 @@ pub stored-numbers : (xs : List ℕ) → storedAs U64 xs ≡ xs
 unfolding storedIn
 stored-numbers [] = refl
 stored-numbers (x ∷ xs) = ap (λ (ys : List ℕ). x ∷ ys) (stored-numbers xs)
+
+map-take : (f : ℕ → ℕ) (n : ℕ) (xs : List ℕ) → map f (take n xs) ≡ take n (map f xs)
+map-take f zero xs = refl
+map-take f (suc n) [] = refl
+map-take f (suc n) (x ∷ xs) = ap (λ (ys : List ℕ). f x ∷ ys) (map-take f n xs)
+
+map-drop : (f : ℕ → ℕ) (n : ℕ) (xs : List ℕ) → map f (drop n xs) ≡ drop n (map f xs)
+map-drop f zero xs = refl
+map-drop f (suc n) [] = refl
+map-drop f (suc n) (x ∷ xs) = map-drop f n xs
+
+-- the stored numbers of what a window shows are what it shows of the stored numbers
+pub stored-shown : (kind : Kind) (w : Window) (xs : List ℕ) → storedAs kind (shown w xs) ≡ shown w (storedAs kind xs)
+stored-shown kind w xs = map-take (storedIn kind) (w .rows) (drop (w .first) xs) ∙ ap (take (w .rows)) (map-drop (storedIn kind) (w .first) xs)

@@ -6,31 +6,34 @@
 --     tell-signed, tell-float, tell-flag, tell-typed
 --                        demand 3: what the answers read as differs where the stored numbers do
 -- Assumes nothing.
-use mathlib.Core.Path.{_≡_, refl, sym, ap, _∙_}
+use mathlib.Core.Path.{_≡_, refl, sym, ap, _∙_, subst}
 use mathlib.Core.Bool.{Bool, true, false, true≢false, false≢true}
 use mathlib.Core.Logic.{_⊎_, inl, inr}
 use mathlib.Core.List.{List, [], _∷_}
 use Prim.Native.Nat.{ℕ, zero, suc, _-_, _*_, _/_, _^_, _≤_, _<_, min}
 use native.Mathlib.Omega.{arith}
 use lib.Dec.{ltb, leb}
-use lib.ListN.{length, getD}
+use lib.ListN.{length, drop, getD}
 use borrow.Author.Tests.{ltb-true, ltb-false}
 use Rattle.format.specs.declared.Kind.{Kind}
 use Rattle.format.specs.declared.Kind.the-variants.{U64, I64, Date, Bool as Flag, F64}
 use Rattle.format.specs.declared.Spelling.the-variants.{Shortest}
+use Rattle.format.specs.declared.Window.{Window}
 use Rattle.format.specs.Outcome.{Outcome, Outcome.value, Outcome.refusal, _>>_, demand}
 use Rattle.format.specs.Word.{AllBelow}
 use Rattle.format.specs.Bodies.{blockCount}
 use Rattle.format.specs.Writing.{written}
 use Rattle.format.specs.Opening.{Loaded, opened}
 use Rattle.format.specs.Sheets.{openedUnder}
+use Rattle.format.specs.Windows.{windowed, inWindow}
 use Rattle.format.specs.Lookup.{rowsPassing, lookedUp}
 use Rattle.format.specs.Typed.{storedIn, storedAs, readAs, readingOf, meant, lies, between, signedBits, storedSigned, signedOf, flagOf, storedFloat, floatOf}
-use Rattle.format.specs.Demands.{readsAs, filledBy, answered, GivesBack, GivesBackAs, ReturnsAs, Differ, DifferAs, BothTrue, TellTyped}
+use Rattle.format.specs.Demands.{readsAs, filledBy, answered, LiesIn, shown, GivesBack, GivesBackAs, ReturnsAs, Differ, DifferAs, BothTrue, TellTyped}
+use Rattle.format.proofs.Lists.{all-take, all-drop}
 use Rattle.format.proofs.Outcomes.{value-same, not-value}
 use Rattle.format.proofs.Lookups.{foundIn, looked-agree, looked-up}
 use Rattle.format.proofs.Mappings.{signed-back, stored-back, bits-in, flag-back, float-back, bits-back}
-use Rattle.format.proofs.StoredLists.{stored-length, stored-at, stored-words}
+use Rattle.format.proofs.StoredLists.{stored-shown, stored-length, stored-at, stored-words}
 use Rattle.format.proofs.TypedLookups.{row-words}
 use Rattle.format.proofs.Demand2.{demand2, written-shortest, written-passes}
 use Rattle.format.proofs.Demand3.{demand3}
@@ -82,7 +85,14 @@ module _ (kind : Kind) (xs : List ℕ) (each : AllBelow (2 ^ 64) xs) where
 pub returns-as : (kind : Kind) → ReturnsAs kind
 returns-as kind xs cs bytes table room each e enough =
     let g = demand2 .0 (storedAs kind xs) cs bytes table room (stored-words kind xs each) e (rw (stored-length kind xs) enough) in
-    (g .0, g .1, gives-back-as kind xs each bytes table (g .0) (g .2))
+    let o = g .0 in (
+      o,
+      g .1,
+      gives-back-as kind xs each bytes table o (g .2),
+      λ (w : Window) (inside : LiesIn w o).
+          gives-back-as kind (shown w xs) (all-take (w .rows) (drop (w .first) xs) (all-drop (w .first) xs each)) bytes table (inWindow o w)
+          (subst (λ (l : List ℕ). GivesBack l bytes table (inWindow o w)) (sym (stored-shown kind w xs)) (g .3 w inside)),
+    )
 
 pub shortest-as : (kind : Kind) (xs cs bytes table : List ℕ) (room : ℕ) → AllBelow (2 ^ 64) xs → written (storedAs kind xs) cs room ≡ value bytes
     → 4 * blockCount (length xs) ≤ length table → (o : Loaded) → opened bytes (length table / 4) ≡ value o → o .spelling ≡ Shortest
@@ -146,10 +156,10 @@ tell-flag r (refusal n also) (value w) (inl apart) = inl (inl (λ e. not-value e
 tell-flag r (refusal n also) (refusal m more) (inl apart) = inl (inl (λ e. apart (same-refusal e)))
 
 pub tell-typed : TellTyped
-tell-typed s t table other o p opens opens-too alike r h bits =
-    let differ = demand3 .2 s t table other o p opens opens-too alike .differ r h bits in
-    let small = row-words (o .column) (filledBy o table) s r in
-    let small-too = row-words (p .column) (filledBy p other) t r in
-    let a = answered o table s r in
-    let b = answered p other t r in
+tell-typed s t table other o p opens opens-too alike w inside r h bits =
+    let differ = demand3 .2 s t table other o p opens opens-too alike .differ w inside r h bits in
+    let small = row-words (windowed (o .column) w) (filledBy o table) s r in
+    let small-too = row-words (windowed (p .column) w) (filledBy p other) t r in
+    let a = answered (inWindow o w) table s r in
+    let b = answered (inWindow p w) other t r in
     record { signed = tell-signed r a b small small-too differ; float = tell-float r a b small small-too differ; flag = tell-flag r a b differ }

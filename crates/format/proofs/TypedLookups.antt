@@ -25,11 +25,11 @@ use Rattle.format.specs.declared.Block.{Block}
 use Rattle.format.specs.declared.Column.{Column}
 use Rattle.format.specs.declared.Range.{Range}
 use Rattle.format.specs.Outcome.{Outcome, Outcome.value, Outcome.refusal}
-use Rattle.format.specs.Reading.{columnFits, rowFits, fits, packedOf, blockAt, scaled, valueIn, rowIn, rowAt}
+use Rattle.format.specs.Reading.{columnRow, windowFits, columnFits, rowFits, fits, packedOf, blockAt, scaled, valueIn, valueAt, askedAs, rowIn, rowAt}
 use Rattle.format.specs.Lookup.{passes, rowsPassing, lookedUp, within}
 use Rattle.format.specs.Typed.{Reading, Keeps, Covers, between, signeds, flags, floats, signedRange, flagRange, floatRange, storedSigned, signedOf, storedFlag, flagOf, storedFloat}
 use Rattle.format.proofs.Lists.{below-or}
-use Rattle.format.proofs.Outcomes.{by-demand, value-same}
+use Rattle.format.proofs.Outcomes.{not-value, by-demand, value-same}
 use Rattle.format.proofs.Runs.{scaled-below}
 use Rattle.format.proofs.Lookups.{within-both}
 use Rattle.format.proofs.Mappings.{signed-order, read-order, stored-back, signed-in, bits-back, flag-rises}
@@ -47,8 +47,8 @@ bounds-small col blocks b s r e =
     let step = ltb 0 (col .gcd) in
     let bounds = ltb (col .minimum + col .count * col .gcd) (2 ^ 64) in
     let column = and-eq-true-iff (columnFits col s) (rowFits col blocks b r) .0 e .0 in
-    let two = and-eq-true-iff (step && bounds) (leb (col .start + col .size) (length s)) .0 column .0 in
-    ltb-true _ _ (and-eq-true-iff step bounds .0 two .1)
+    let two = and-eq-true-iff (windowFits col && step && bounds) (leb (col .start + col .size) (length s)) .0 column in
+    ltb-true _ _ (and-eq-true-iff (windowFits col && step) bounds .0 (two .0) .1)
 
 scaled-words : (col : Column) (r n u : ℕ) → col .minimum + col .count * col .gcd < 2 ^ 64 → scaled col r n ≡ value u → u < 2 ^ 64
 scaled-words col r n u h e = by-demand (leb n (col .count)) 14 (r ∷ []) (value (col .minimum + col .gcd * n)) e
@@ -63,13 +63,19 @@ value-words (Linear l w) col b r n u h e =
     subst (λ (x : ℕ). x < 2 ^ 64) (value-same is) (lt-of-le-of-lt {m = col .minimum + col .gcd * col .count} (within-both _ _ _ test .1) (omega arith)))
 value-words Blockwise col b r n u h e = scaled-words col r _ u h e
 
+-- a row named otherwise has the same value
+asked-value : (r : ℕ) (o : Outcome ℕ) (u : ℕ) → askedAs r o ≡ value u → o ≡ value u
+asked-value r (value v) u e = e
+asked-value r (refusal number also) u e = absurd (not-value e)
+
 pub row-words : (col : Column) (t s : List ℕ) → Words (rowAt col t s)
 unfolding rowIn
 row-words col t s r u e =
-    let b = blockAt t (r / 512) in
-    by-demand (ltb r (col .rows)) 12 [] _ e
-    (λ inside rest. by-demand (fits col (length t / 4) b s r) 13 [] _ rest
-    (λ fit is. value-words (col .codec) col b r (packedOf col b s r) u (bounds-small col (length t / 4) b s r fit) is))
+    let q = columnRow col r in
+    let b = blockAt t (q / 512) in
+    by-demand (ltb r (col .window .rows)) 12 [] _ e
+    (λ inside rest. by-demand (fits col (length t / 4) b s q) 13 [] _ rest
+    (λ fit is. value-words (col .codec) col b q (packedOf col b s q) u (bounds-small col (length t / 4) b s q fit) (asked-value r (valueAt col b s q) u is)))
 
 -- ---- tests that agree on numbers of 64 bits
 

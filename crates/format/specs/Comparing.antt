@@ -56,12 +56,12 @@ compared left right rows =
 
 -- ---- the comparison
 
--- of what two openings found, over the rows of either: rows of one only stand behind all rows of the other; or the first refusal as the only line
+-- of what two openings found, over the rows of either window: rows of one only stand behind all rows of the other; or the first refusal as the only line
 abbrev pub comparedOr : (left right : Outcome Loaded) (s t : List ℕ) → List ℕ
 comparedOr (refusal number also) right s t = namedLine (ascii "left refused ") number
 comparedOr (value o) (refusal number also) s t = namedLine (ascii "right refused ") number
 comparedOr (value o) (value p) s t =
-    compared (rowAt (o .column) (o .table) s) (rowAt (p .column) (p .table) t) (max (o .column .rows) (p .column .rows))
+    compared (rowAt (o .column) (o .table) s) (rowAt (p .column) (p .table) t) (max (o .column .window .rows) (p .column .window .rows))
 
 -- what the program writes of the bytes of two files
 unfoldable pub comparison : (s t : List ℕ) → List ℕ

@@ -4,8 +4,9 @@ use Prim.Native.Nat.{ℕ, zero, suc, _+_, _*_, _/_, _^_, _≤_, _<_}
 use mathlib.Core.Path.{_≡_}
 use mathlib.Core.Logic.{_⊎_}
 use mathlib.Core.List.{List, [], _∷_}
-use lib.ListN.{length, getD}
+use lib.ListN.{length, take, drop, getD}
 use Rattle.format.specs.declared.Kind.{Kind}
+use Rattle.format.specs.declared.Window.{Window}
 use Rattle.format.specs.Outcome.{Outcome, Outcome.value, Outcome.refusal, stored}
 use Rattle.format.specs.Word.{AllBelow}
 use Rattle.format.specs.Packing.{bitAt}
@@ -13,6 +14,7 @@ use Rattle.format.specs.Bodies.{blockCount}
 use Rattle.format.specs.Writing.{written}
 use Rattle.format.specs.Opening.{Loaded, opened}
 use Rattle.format.specs.Reading.{rowAt, placeOf, blockAt}
+use Rattle.format.specs.Windows.{inWindow}
 use Rattle.format.specs.Lookup.{lookedUp, within}
 use Rattle.format.specs.Typed.{storedAs, readAs, readingOf, meant, lies, between, signedOf, flagOf, floatOf}
 
@@ -24,26 +26,35 @@ filledBy o table = stored (value (o .table)) table
 abbrev pub answered : Loaded → (table s : List ℕ) (r : ℕ) → Outcome ℕ
 answered o table s r = rowAt (o .column) (filledBy o table) s r
 
+-- a window lies in an opened column
+abbrev pub LiesIn : Window → Loaded → Type 0
+LiesIn w o = w .first + w .rows ≤ o .column .rows
+
 -- ---- demand 2: what was written opens, and gives back every row and every row in a value range
 
 -- how a list of values reads, row by row
 abbrev pub readsAs : (vs : List ℕ) (r : ℕ) → Outcome ℕ
 readsAs vs r = value (getD vs r 0)
 
--- an opened column gives back a list: as many rows, each row, and every lookup
+-- the window of an opened column gives back a list: as many rows, each row, and every lookup
 pub record GivesBack (vs bytes table : List ℕ) (o : Loaded) : Type 0 where
-  pub count : o .column .rows ≡ length vs
+  pub count : o .column .window .rows ≡ length vs
   pub rows : (r : ℕ) → r < length vs → answered o table bytes r ≡ readsAs vs r
   pub found : (low high first end room : ℕ)
-      → lookedUp (answered o table bytes) (o .column .rows) (within low high) first end room
+      → lookedUp (answered o table bytes) (o .column .window .rows) (within low high) first end room
       ≡ lookedUp (readsAs vs) (length vs) (within low high) first end room
 
--- what was written opens, with any table that has room for its blocks, and gives back the list
+-- the part of a list that a window shows
+abbrev pub shown : Window → List ℕ → List ℕ
+shown w vs = take (w .rows) (drop (w .first) vs)
+
+-- what was written opens, with any table that has room for its blocks, and gives back the list; any window in it gives back its part of the list
 abbrev pub Returns : Type 0
 Returns =
     (vs cs bytes table : List ℕ) (room : ℕ) → AllBelow (2 ^ 64) vs → written vs cs room ≡ value bytes
     → 4 * blockCount (length vs) ≤ length table
     → (o : Loaded) × (opened bytes (length table / 4) ≡ value o) × GivesBack vs bytes table o
+    × ((w : Window) → LiesIn w o → GivesBack (shown w vs) bytes table (inWindow o w))
 
 -- a codec applies to some values: Linear from 512 on
 abbrev pub Applies : (codec : ℕ) → List ℕ → Type 0
@@ -104,11 +115,13 @@ SameBits o s t r = (k : ℕ) → Owns o r k → bitAt s k ≡ bitAt t k
 abbrev pub Differ : (r : ℕ) (a b : Outcome ℕ) → Type 0
 Differ r a b = (a ≡ b → ⊥) ⊎ ((a ≡ refusal 14 (r ∷ [])) × (b ≡ refusal 14 (r ∷ [])))
 
--- they open alike; a row whose bits agree answers the same; one whose bits differ answers otherwise, unless both answers are 14
+-- they open alike; of any window, a row whose bits agree answers the same; one whose bits differ answers otherwise, unless both answers are 14
 pub record RowsTell (s t table other : List ℕ) (o p : Loaded) : Type 0 where
   pub same : o ≡ p
-  pub agree : (r : ℕ) → r < o .column .rows → SameBits o s t r → answered o table s r ≡ answered p other t r
-  pub differ : (r : ℕ) → r < o .column .rows → (SameBits o s t r → ⊥) → Differ r (answered o table s r) (answered p other t r)
+  pub agree : (w : Window) → LiesIn w o → (r : ℕ) → r < w .rows → SameBits o s t (w .first + r)
+      → answered (inWindow o w) table s r ≡ answered (inWindow p w) other t r
+  pub differ : (w : Window) → LiesIn w o → (r : ℕ) → r < w .rows → (SameBits o s t (w .first + r) → ⊥)
+      → Differ r (answered (inWindow o w) table s r) (answered (inWindow p w) other t r)
 
 -- two such byte strings, each opened with a table of its own, are told apart row by row
 abbrev pub Tell : Type 0
@@ -122,20 +135,21 @@ Demand3 = Inside × Apart × Tell
 
 -- ---- both, of columns of other kinds
 
--- an opened column gives back a list of values of a kind: as many rows, each row's value, and every lookup by values
+-- the window of an opened column gives back a list of values of a kind: as many rows, each row's value, and every lookup by values
 pub record GivesBackAs (kind : Kind) (xs bytes table : List ℕ) (o : Loaded) : Type 0 where
-  pub count : o .column .rows ≡ length xs
+  pub count : o .column .window .rows ≡ length xs
   pub rows : (r : ℕ) → r < length xs → readAs (readingOf kind .value) (answered o table bytes r) ≡ value (meant kind (getD xs r 0))
   pub found : (low high : readingOf kind .Value) (first end room : ℕ)
-      → lookedUp (answered o table bytes) (o .column .rows) (between (readingOf kind) low high) first end room
+      → lookedUp (answered o table bytes) (o .column .window .rows) (between (readingOf kind) low high) first end room
       ≡ lookedUp (readsAs xs) (length xs) (λ x. lies (readingOf kind) low high (meant kind x)) first end room
 
--- what was written of such a list opens, and gives it back
+-- what was written of such a list opens, and gives it back, and any window in it its part
 abbrev pub ReturnsAs : Kind → Type 0
 ReturnsAs kind =
     (xs cs bytes table : List ℕ) (room : ℕ) → AllBelow (2 ^ 64) xs → written (storedAs kind xs) cs room ≡ value bytes
     → 4 * blockCount (length xs) ≤ length table
     → (o : Loaded) × (opened bytes (length table / 4) ≡ value o) × GivesBackAs kind xs bytes table o
+    × ((w : Window) → LiesIn w o → GivesBackAs kind (shown w xs) bytes table (inWindow o w))
 
 -- what two answers for a row read as differs, unless both are 14
 abbrev pub DifferAs : {A : Type 0} → (read : ℕ → A) (r : ℕ) (a b : Outcome ℕ) → Type 0
@@ -156,8 +170,9 @@ pub record TellAs (r : ℕ) (a b : Outcome ℕ) : Type 0 where
   pub float : DifferAs floatOf r a b
   pub flag : DifferAs flagOf r a b ⊎ BothTrue a b
 
--- a row whose bits differ answers so
+-- a row of a window whose bits differ answers so
 abbrev pub TellTyped : Type 0
 TellTyped =
     (s t table other : List ℕ) (o p : Loaded) → opened s (length table / 4) ≡ value o → opened t (length other / 4) ≡ value p → Alike s t o
-    → (r : ℕ) → r < o .column .rows → (SameBits o s t r → ⊥) → TellAs r (answered o table s r) (answered p other t r)
+    → (w : Window) → LiesIn w o → (r : ℕ) → r < w .rows → (SameBits o s t (w .first + r) → ⊥)
+    → TellAs r (answered (inWindow o w) table s r) (answered (inWindow p w) other t r)

@@ -1,8 +1,8 @@
--- Reading a row of an opened column.
+-- Reading a row of an opened column, through its window. All rows are the column's own but those of the last part.
 -- Assumes nothing.
 use Prim.Native.Nat.{ℕ, _+_, _*_, _/_, _%_, _^_}
 use mathlib.Core.Bool.{Bool, true, _&&_, _||_}
-use mathlib.Core.List.{List, [], _∷_}
+use mathlib.Core.List.{List, [], _∷_, map}
 use lib.Dec.{ltb, leb, eqb}
 use lib.ListN.{length, drop, getD}
 use Rattle.format.specs.declared.Codec.{Codec}
@@ -10,7 +10,7 @@ use Rattle.format.specs.declared.Codec.the-variants.{Bitpacked, Linear, 
 use Rattle.format.specs.declared.Column.{Column}
 use Rattle.format.specs.declared.Block.{Block}
 use Rattle.format.specs.declared.Place.{Place}
-use Rattle.format.specs.Outcome.{Outcome, Outcome.value, _>>=_, _>>_, demand}
+use Rattle.format.specs.Outcome.{Outcome, Outcome.value, Outcome.refusal, _>>=_, _>>_, demand}
 use Rattle.format.specs.Word.{modAdd}
 use Rattle.format.specs.Packing.{width, legal, unpack}
 use Rattle.format.specs.Line.{lineAt}
@@ -30,6 +30,16 @@ hasBlock Bitpacked blocks r = true
 hasBlock (Linear l w) blocks r = true
 hasBlock Blockwise blocks r = ltb (r / 512) blocks
 
+-- ---- the window
+
+-- row r of a column's window, as the column counts it
+abbrev pub columnRow : Column → (r : ℕ) → ℕ
+columnRow col r = col .window .first + r
+
+-- whether the window lies in the column
+abbrev pub windowFits : Column → Bool
+windowFits col = leb (col .window .first + col .window .rows) (col .rows)
+
 -- ---- a row's bits
 
 -- where a row's number stands, by the codec and the row's block; Bitpacked's width comes from the count
@@ -42,10 +52,11 @@ placeIn Blockwise count b r = record { start = b .start; row = r % 512; bits = b
 abbrev pub placeOf : Column → Block → (r : ℕ) → Place
 placeOf col b r = placeIn (col .codec) (col .count) b r
 
--- whether a column and bytes fit together, whatever the row: the gcd, the bounds, the area
+-- whether a column and bytes fit together, whatever the row: the window, the gcd, the bounds, the area
 unfoldable pub columnFits : Column → (s : List ℕ) → Bool
 columnFits col s =
-    ltb 0 (col .gcd)
+    windowFits col
+    && ltb 0 (col .gcd)
     && ltb (col .minimum + col .count * col .gcd) (2 ^ 64)
     && leb (col .start + col .size) (length s)
 
@@ -87,13 +98,18 @@ valueAt col b s r = valueIn (col .codec) col b r (packedOf col b s r)
 
 -- ---- reading
 
--- row r of a column, with its block out of a table of so many
+-- what a row answers, with the row named as it was asked for
+abbrev pub askedAs : (r : ℕ) → Outcome ℕ → Outcome ℕ
+askedAs r (value v) = value v
+askedAs r (refusal number also) = refusal number (map (λ (q : ℕ). r) also)
+
+-- row r of a column's window, with its block out of a table of so many
 unfoldable pub rowIn : Column → (blocks : ℕ) → Block → (s : List ℕ) (r : ℕ) → Outcome ℕ
 rowIn col blocks b s r = do
-  demand (ltb r (col .rows)) 12 []
-  demand (fits col blocks b s r) 13 []
-  valueAt col b s r
+  demand (ltb r (col .window .rows)) 12 []
+  demand (fits col blocks b s (columnRow col r)) 13 []
+  askedAs r (valueAt col b s (columnRow col r))
 
--- reading row r of a column, with its table and its bytes
+-- reading row r of a column's window, with its table and its bytes; the block is that of the column's row
 abbrev pub rowAt : Column → (t s : List ℕ) (r : ℕ) → Outcome ℕ
-rowAt col t s r = rowIn col (length t / 4) (blockAt t (r / 512)) s r
+rowAt col t s r = rowIn col (length t / 4) (blockAt t (columnRow col r / 512)) s r

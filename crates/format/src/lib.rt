@@ -109,7 +109,13 @@ pub enum Codec {
     Blockwise,
 }
 
-// An opened column. Its packed area is `size` bytes from `start` on.
+// The rows of a column that are shown: `rows` of them, from the column's row `first` on.
+pub struct Window {
+    pub first: u32,
+    pub rows: u32,
+}
+
+// An opened column. Its packed area is `size` bytes from `start` on; its rows are read through its window.
 pub struct Column {
     pub minimum: u64,
     pub gcd: u64,
@@ -117,6 +123,7 @@ pub struct Column {
     pub rows: u32,
     pub start: usize,
     pub size: usize,
+    pub window: Window,
     pub codec: Codec,
 }
 
@@ -134,7 +141,9 @@ pub struct Place {
     pub bits: u64,
 }
 
-// A row of a column, and a row of one block: two counts.
+// A row of a column's window, a row of the column, and a row of one block: three counts.
+pub struct WindowRow(pub u32);
+
 pub struct ColumnRow(pub u32);
 
 pub struct BlockRow(pub u32);
@@ -235,6 +244,12 @@ pub enum Written {
 pub enum Opened {
     Column(Column, Spelling),
     Refused(Refusal),
+}
+
+// Narrowing a column's window: the column with the new window, or a refusal and the column as it was.
+pub enum Narrowed {
+    Column(Column),
+    Refused(Refusal, Column),
 }
 
 // Reading a row.

@@ -20,6 +20,7 @@ use format::Line;
 use format::Opened;
 use format::Refusal;
 use format::RowRead;
+use format::Window;
 use line::FieldsRead;
 
 // The column of a head: the line and the width come behind it, and then the area.
@@ -35,6 +36,10 @@ pub fn load(bytes: &[u8], head: Head) -> Opened
         return Opened::Refused(Refusal::AreaShort);
     }
     let line = fields.line;
+    let window = Window {
+        first: 0,
+        rows: head.rows,
+    };
     let column = Column {
         minimum: head.minimum,
         gcd: head.gcd,
@@ -42,6 +47,7 @@ pub fn load(bytes: &[u8], head: Head) -> Opened
         rows: head.rows,
         start: fields.next,
         size,
+        window,
         codec: Codec::Linear(line, fields.bits),
     };
     let first = head.spelling;

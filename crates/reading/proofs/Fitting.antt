@@ -2,6 +2,7 @@
 --     inArea, column-tested, row-tested             what the tests gave decides
 --     fitting                                       what fitting together says, test by test
 --     bitpacked-reads, linear-reads, blocks-read    each codec's demand
+--     fitting-window                                .. and of the window
 --     fits-earlier, chunk-fits, chunk-reads         what fits at a chunk's last row fits at all of its rows
 -- Assumes nothing.
 use Prim.Native.Nat.{ℕ, _+_, _-_, _*_, _/_, _%_, _^_, _≤_, _<_}
@@ -21,7 +22,7 @@ use Rattle.format.specs.declared.Column.{Column}
 use Rattle.format.specs.declared.Line.{Line}
 use Rattle.format.specs.Packing.{width, legal}
 use Rattle.format.specs.declared.Place.{Place}
-use Rattle.format.specs.Reading.{placeIn, placeOf, hasBlock, columnFits, rowFits, fits, valueAt, rowIn}
+use Rattle.format.specs.Reading.{columnRow, windowFits, askedAs, placeIn, placeOf, hasBlock, columnFits, rowFits, fits, valueAt, rowIn}
 use Rattle.format.specs.Runs.{readRun}
 use Rattle.format.proofs.Runs.{run-agree}
 use Rattle.bitpacked.specs.Reader.{Readable as BitpackedReadable}
@@ -45,6 +46,13 @@ all-held a b c h =
     let one = and-eq-true-iff a b .0 (two .0) in
     (one .0, one .1, two .1)
 
+-- all of four tests held
+four-held : (a b c d : Bool) → (a && b && c && d) ≡ true → (a ≡ true) × (b ≡ true) × (c ≡ true) × (d ≡ true)
+four-held a b c d h =
+    let e = and-eq-true-iff (a && b && c) d .0 h in
+    let f = all-held a b c (e .0) in
+    (f .0, f .1, f .2, e .1)
+
 -- ---- the tests
 
 -- whether the number of a place ends within an area, if it has bits
@@ -52,13 +60,14 @@ abbrev pub inArea : (size : ℕ) → Place → Bool
 inArea size p = eqb (p .bits) 0 || leb (8 * p .start + (p .row + 1) * p .bits) (8 * size)
 
 -- what the tests gave decides, in their order
-pub column-tested : (col : Column) (s : List ℕ) {step bounds area : Bool}
+pub column-tested : (col : Column) (s : List ℕ) {window step bounds area : Bool}
+    → windowFits col ≡ window
     → ltb 0 (col .gcd) ≡ step
     → ltb (col .minimum + col .count * col .gcd) (2 ^ 64) ≡ bounds
     → leb (col .start + col .size) (length s) ≡ area
-    → (step && bounds && area) ≡ columnFits col s
+    → (window && step && bounds && area) ≡ columnFits col s
 unfolding columnFits
-column-tested col s step bounds area = rw (← step, ← bounds, ← area)
+column-tested col s window step bounds area = rw (← window, ← step, ← bounds, ← area)
 
 pub row-tested : (col : Column) (blocks : ℕ) (b : Block) (r : ℕ) {block lawful inside : Bool}
     → hasBlock (col .codec) blocks r ≡ block
@@ -83,17 +92,24 @@ module _ (col : Column) (blocks : ℕ) (b : Block) (s : List ℕ) (r : ℕ) (fit
   unfolding columnFits rowFits
   fitting =
       let p = placeOf col b r in
-      let c = all-held (ltb 0 (col .gcd)) (ltb (col .minimum + col .count * col .gcd) (2 ^ 64)) (leb (col .start + col .size) (length s)) (two .0) in
+      let c = four-held (windowFits col) (ltb 0 (col .gcd)) (ltb (col .minimum + col .count * col .gcd) (2 ^ 64)) (leb (col .start + col .size) (length s)) (two .0) in
       let h = all-held (hasBlock (col .codec) blocks r) (legal (p .bits)) (inArea (col .size) p) (two .1) in
       record {
-        bounds = ltb-true _ _ (c .1);
+        bounds = ltb-true _ _ (c .2);
         lawful = h .1;
-        area = leb-true _ _ (c .2);
+        area = leb-true _ _ (c .3);
         inside =
             ⊎-elim (λ none. inl (eqb-true (p .bits) 0 none))
             (λ within. inr (leb-true (8 * p .start + (p .row + 1) * p .bits) (8 * col .size) within))
             (either (eqb (p .bits) 0) (leb (8 * p .start + (p .row + 1) * p .bits) (8 * col .size)) (h .2));
       }
+
+  -- the window lies in the column
+  pub fitting-window : col .window .first + col .window .rows ≤ col .rows
+  unfolding columnFits
+  fitting-window =
+      let c = four-held (windowFits col) (ltb 0 (col .gcd)) (ltb (col .minimum + col .count * col .gcd) (2 ^ 64)) (leb (col .start + col .size) (length s)) (two .0) in
+      leb-true (col .window .first + col .window .rows) (col .rows) (c .0)
 
 -- ---- each codec's demand
 
@@ -158,11 +174,12 @@ module _ (col : Column) (blocks : ℕ) (b : Block) (s : List ℕ) where
       let t = two col blocks b s j e in
       rw (t .0) (earlier (col .count) blocks b (col .size) i j h same (col .codec) (t .1))
 
-  module _ (r n : ℕ) (c : Chunk col r n) {last : ℕ} (is : last ≡ r + (n - 1)) (fit : fits col blocks b s last ≡ true) where
-    pub chunk-fits : (x : ℕ) → r ≤ x → x < r + n → fits col blocks b s x ≡ true
-    chunk-fits x low high = fits-earlier x last (omega (arith, c .some)) (omega (arith, c .some, c .one)) fit
+  module _ (r n : ℕ) (c : Chunk (col .window .rows) (col .window .first) r n) (fit : fits col blocks b s (columnRow col (r + (n - 1))) ≡ true) where
+    pub chunk-fits : (x : ℕ) → r ≤ x → x < r + n → fits col blocks b s (columnRow col x) ≡ true
+    chunk-fits x low high = fits-earlier (columnRow col x) (columnRow col (r + (n - 1))) (omega (arith, c .some)) (omega (arith, c .some, c .one)) fit
 
-    -- so a chunk reads as the values of its rows
-    pub chunk-reads : readRun (rowIn col blocks b s) r n ≡ readRun (valueAt col b s) r n
+    -- so a chunk reads as the values of its rows, each named as it was asked for
+    pub chunk-reads : readRun (rowIn col blocks b s) r n ≡ readRun (λ (x : ℕ). askedAs x (valueAt col b s (columnRow col x))) r n
     unfolding rowIn
-    chunk-reads = run-agree (rowIn col blocks b s) (valueAt col b s) r n (λ x low high. rw (lt-ltb x (col .rows) (omega (arith, c .rows)), chunk-fits x low high))
+    chunk-reads = run-agree (rowIn col blocks b s) (λ (x : ℕ). askedAs x (valueAt col b s (columnRow col x))) r n
+        (λ x low high. rw (lt-ltb x (col .window .rows) (omega (arith, c .inside)), chunk-fits x low high))

@@ -2,6 +2,7 @@
 
 -- a row
 pub mod Fitting
+pub mod Moving
 -- decoding
 pub mod Chunks
 pub mod Stretches

@@ -19,6 +19,7 @@ use lib.ListN.{length, length-append}
 use lib.Seq.{sets, length-sets}
 use borrow.Author.Tests.{leb-true, ltb-true, ltb-false, le-leb, lt-leb}
 use Rattle.format.specs.declared.Refusal.{Refusal}
+use Rattle.format.specs.declared.Window.{Window}
 use Rattle.format.specs.declared.Refusal.the-variants.{NoSuchRow, ListShort}
 use Rattle.format.specs.Lookup.{allRead, rowsPassing, lookedUp}
 use Rattle.format.specs.Outcome.{Outcome, Outcome.value, Outcome.refusal, _>>=_, _>>_, demand, pick, stored}
@@ -29,8 +30,7 @@ use Rattle.format.proofs.Runs.{run-long, run-after, run-refused}
 use Rattle.reading.specs.declared.walks.Walk.{Walk}
 use Rattle.reading.specs.declared.walks.Walked.{Walked}
 use Rattle.reading.specs.declared.walks.Walked.the-variants.{Entries, Refused}
-use Rattle.reading.specs.Chunks.{chunkSize}
-use Rattle.reading.specs.Walks.{rowsIn, Kept, Kept.allValues, Kept.rowsOf, entries, kept, walked, WalkedAs, Going, left, Single, Good, Passing, Walking}
+use Rattle.reading.specs.Walks.{rowsIn, Kept, Kept.allValues, Kept.rowsOf, entries, kept, walked, WalkedAs, nextChunk, Going, left, Single, Good, Passing, Walking}
 use Rattle.reading.proofs.Chunks.{chunk-to}
 use Rattle.reading.proofs.Scans.{rows-few}
 use Rattle.reading.proofs.Turns.{all-run, all-refused, rows-run, sets-behind}
@@ -99,18 +99,18 @@ as-unless : (A B : Type 0) (t : Bool) → t ≡ false → B → pick t A B
 as-unless A B false e x = x
 as-unless A B true e x = let z : _≡_ {A = ℕ} 0 1 = cc in absurd (omega arith)
 
-module _ {k : Kept} {read : ℕ → Outcome ℕ} {rows : ℕ} {o : Outcome (List ℕ)} {before list : List ℕ} {w : Walk} where
+module _ {k : Kept} {read : ℕ → Outcome ℕ} {window : Window} {o : Outcome (List ℕ)} {before list : List ℕ} {w : Walk} where
   -- a walk that is over has its answer
-  pub ended : {a : Walked} → w .going ≡ false → w .answer ≡ a → WalkedAs o a before list → Walking k read rows o before w list
+  pub ended : {a : Walked} → w .going ≡ false → w .answer ≡ a → WalkedAs o a before list → Walking k read window o before w list
   ended {a} e g f =
-      record { phase = as-unless (Passing k read rows o before w list) (WalkedAs o (w .answer) before list) (w .going) e (subst (λ (x : Walked). WalkedAs o x before list) (sym g) f) }
+      record { phase = as-unless (Passing k read window o before w list) (WalkedAs o (w .answer) before list) (w .going) e (subst (λ (x : Walked). WalkedAs o x before list) (sym g) f) }
 
-  module _ (f : Walking k read rows o before w list) where
+  module _ (f : Walking k read window o before w list) where
     pub is-over : w .going ≡ false → WalkedAs o (w .answer) before list
-    is-over e = unless (Passing k read rows o before w list) (WalkedAs o (w .answer) before list) (w .going) e (f .phase)
+    is-over e = unless (Passing k read window o before w list) (WalkedAs o (w .answer) before list) (w .going) e (f .phase)
 
-    pub is-passing : w .going ≡ true → Passing k read rows o before w list
-    is-passing e = when (Passing k read rows o before w list) (WalkedAs o (w .answer) before list) (w .going) e (f .phase)
+    pub is-passing : w .going ≡ true → Passing k read window o before w list
+    is-passing e = when (Passing k read window o before w list) (WalkedAs o (w .answer) before list) (w .going) e (f .phase)
 
 -- a lent list is as long as it was
 stored-long : (o : Outcome (List ℕ)) (list : List ℕ) → length (stored o list) ≡ length list
@@ -124,13 +124,13 @@ picked-long : (t : Bool) (before xs : List ℕ) → length (pick t (sets before 
 picked-long true before xs = length-sets before 0 xs
 picked-long false before xs = refl
 
-pub passing-long : {k : Kept} {read : ℕ → Outcome ℕ} {rows : ℕ} {o : Outcome (List ℕ)} {before list : List ℕ} {w : Walk} → Passing k read rows o before w list → length list ≡ length before
-passing-long {k} {read} {rows} {o} {before} {list} {w} f = ap length (f .list-is) ∙ picked-long (w .storing) before (entries k (w .first) (f .values))
+pub passing-long : {k : Kept} {read : ℕ → Outcome ℕ} {window : Window} {o : Outcome (List ℕ)} {before list : List ℕ} {w : Walk} → Passing k read window o before w list → length list ≡ length before
+passing-long {k} {read} {window} {o} {before} {list} {w} f = ap length (f .list-is) ∙ picked-long (w .storing) before (entries k (w .first) (f .values))
 
 -- a run has a list of its rows' number, with an entry for each row done
-pub passing-run : {read : ℕ → Outcome ℕ} {rows : ℕ} {o : Outcome (List ℕ)} {before list : List ℕ} {w : Walk} → Passing allValues read rows o before w list
+pub passing-run : {read : ℕ → Outcome ℕ} {window : Window} {o : Outcome (List ℕ)} {before list : List ℕ} {w : Walk} → Passing allValues read window o before w list
     → (length list ≡ w .end - w .first) × (w .n ≡ w .at - w .first)
-passing-run {read} {rows} {o} {before} {list} {w} f = (passing-long f ∙ f .sized, f .count ∙ run-long read (w .first) (w .at - w .first) (f .values) (f .sofar))
+passing-run {read} {window} {o} {before} {list} {w} f = (passing-long f ∙ f .sized, f .count ∙ run-long read (w .first) (w .at - w .first) (f .values) (f .sofar))
 
 -- ---- the beginning of a lookup
 
@@ -145,16 +145,17 @@ module _ (read : ℕ → Outcome ℕ) (test : ℕ → Bool) where
       by-outcome (value vs) e = rw (all-run read first (min end rows - first) vs e, rows-run read test first (min end rows - first) vs e)
       by-outcome (refusal x y) e = rw (all-refused read first (min end rows - first) x y e)
 
-  pub begins-lookup : (rows first end last : ℕ) (list : List ℕ) (w : Walk) → last ≡ min end rows → w ≡ record { first = first; end = last; at = first; n = 0; storing = false; going = ltb first last; answer = Entries 0 }
-      → Walking (rowsOf test) read rows (lookedUp read rows test first end (length list)) list w list
+  pub begins-lookup : (window : Window) (first end last : ℕ) (list : List ℕ) (w : Walk) → last ≡ min end (window .rows) → w ≡ record { base = window .first; first = first; end = last; at = first; n = 0; storing = false; going = ltb first last; answer = Entries 0 }
+      → Walking (rowsOf test) read window (lookedUp read (window .rows) test first end (length list)) list w list
   unfolding readRun rowsIn
-  begins-lookup rows first end last list w cut is = rw (is, looked-up rows first end (length list), ← cut) (by-rows (ltb first last) refl)
+  begins-lookup window first end last list w cut is = rw (is, looked-up (window .rows) first end (length list), ← cut) (by-rows (ltb first last) refl)
     where
       by-rows : (t : Bool) → ltb first last ≡ t
-          → Walking (rowsOf test) read rows (walked (rowsOf test) read first last (length list)) list (record { first = first; end = last; at = first; n = 0; storing = false; going = t; answer = Entries 0 }) list
+          → Walking (rowsOf test) read window (walked (rowsOf test) read first last (length list)) list (record { base = window .first; first = first; end = last; at = first; n = 0; storing = false; going = t; answer = Entries 0 }) list
       by-rows true e = record {
         phase = record {
           going = record { on = refl; from = omega arith; to = ltb-true _ _ e; few = omega arith };
+          based = refl;
           inside = omega arith;
           sized = tt;
           asked = refl;
@@ -171,34 +172,35 @@ module _ (read : ℕ → Outcome ℕ) (test : ℕ → Bool) where
 
 -- ---- the beginning of a run
 
-module _ (read : ℕ → Outcome ℕ) (rows first n : ℕ) (list : List ℕ) (long : length list ≡ n) where
-  pub leaves : rows < first + n → WalkedAs (decoded read rows first n) (Refused NoSuchRow) list list
+module _ (read : ℕ → Outcome ℕ) (window : Window) (first n : ℕ) (list : List ℕ) (long : length list ≡ n) where
+  pub leaves : window .rows < first + n → WalkedAs (decoded read (window .rows) first n) (Refused NoSuchRow) list list
   unfolding decoded
-  leaves h = rw (lt-leb (first + n) rows h) (record { answer = refl; list = refl })
+  leaves h = rw (lt-leb (first + n) (window .rows) h) (record { answer = refl; list = refl })
 
-  pub none : first + n ≤ rows → n ≡ 0 → WalkedAs (decoded read rows first n) (Entries 0) list list
+  pub none : first + n ≤ window .rows → n ≡ 0 → WalkedAs (decoded read (window .rows) first n) (Entries 0) list list
   unfolding decoded readRun
-  none h e = rw (le-leb (first + n) rows h, e) (record { answer = refl; list = refl })
+  none h e = rw (le-leb (first + n) (window .rows) h, e) (record { answer = refl; list = refl })
 
   -- a run within the rows is a walk
-  ran : first + n ≤ rows → decoded read rows first n ≡ walked allValues read first (first + n) (length list)
+  ran : first + n ≤ window .rows → decoded read (window .rows) first n ≡ walked allValues read first (first + n) (length list)
   unfolding decoded
   ran h =
       let long-is : first + n - first ≡ n = omega arith in
-      rw (le-leb (first + n) rows h, long-is) (by-outcome (readRun read first n) refl)
+      rw (le-leb (first + n) (window .rows) h, long-is) (by-outcome (readRun read first n) refl)
     where
       by-outcome : (p : Outcome (List ℕ)) → readRun read first n ≡ p → p ≡ (p >>= kept allValues (length list) first)
       by-outcome (value vs) e = let fits : length vs ≤ length list = omega (arith, run-long read first n vs e, long) in rw (le-leb (length vs) (length list) fits)
       by-outcome (refusal x y) e = refl
 
-  pub begins-run : first + n ≤ rows → 0 < n → (t : Bool) → t ≡ leb (first + n - first) (512 - first % 512) → (a : Walked)
-      → Passing allValues read rows (decoded read rows first n) list (record { first = first; end = first + n; at = first; n = 0; storing = t; going = true; answer = a }) list
+  pub begins-run : first + n ≤ window .rows → 0 < n → (t : Bool) → t ≡ leb (first + n - first) (512 - (window .first + first) % 512) → (a : Walked)
+      → Passing allValues read window (decoded read (window .rows) first n) list (record { base = window .first; first = first; end = first + n; at = first; n = 0; storing = t; going = true; answer = a }) list
   unfolding readRun
   begins-run h some t e a =
       let long-is : first + n - first ≡ n = omega arith in
       let none-done : first - first ≡ 0 = omega arith in
       record {
         going = record { on = refl; from = omega arith; to = omega arith; few = omega arith };
+        based = refl;
         inside = h;
         sized = long ∙ sym long-is;
         asked = ran h;
@@ -206,7 +208,7 @@ module _ (read : ℕ → Outcome ℕ) (rows first n : ℕ) (list : List ℕ) (lo
         sofar = rw none-done;
         count = refl;
         list-is = by-pass t;
-        clean = λ (s : t ≡ true). inl (record { begins = refl; one = leb-true (first + n - first) (512 - first % 512) (sym e ∙ s); enough = omega (arith, long) });
+        clean = λ (s : t ≡ true). inl (record { begins = refl; one = leb-true (first + n - first) (512 - (window .first + first) % 512) (sym e ∙ s); enough = omega (arith, long) });
       }
     where
       by-pass : (t : Bool) → list ≡ pick t (sets list 0 []) list
@@ -225,7 +227,7 @@ held : (t : Bool) (number : ℕ) (also xs found : List ℕ) → (demand t number
 held true number also xs found e = refl
 held false number also xs found e = absurd (not-value e)
 
-module _ (k : Kept) (read : ℕ → Outcome ℕ) {rows : ℕ} {o : Outcome (List ℕ)} {before list : List ℕ} {w : Walk} (f : Passing k read rows o before w list) (size : ℕ) (chunk : size ≡ chunkSize (w .at) (w .end)) where
+module _ (k : Kept) (read : ℕ → Outcome ℕ) {window : Window} {o : Outcome (List ℕ)} {before list : List ℕ} {w : Walk} (f : Passing k read window o before w list) (size : ℕ) (chunk : size ≡ nextChunk w) where
   -- the chunk comes behind the rows done
   here : w .first + (w .at - w .first) ≡ w .at
   here = omega (arith, f .going .from)
@@ -249,12 +251,13 @@ module _ (k : Kept) (read : ℕ → Outcome ℕ) {rows : ℕ} {o : Outcome (List
     stored-so-far = rw all-entries (more-stored (w .storing) before list (entries k (w .first) (f .values)) (entries k (w .at) vs) (w .n) (f .count) (f .list-is))
 
     pub goes-on : w .at + size < w .end → (a : Walked)
-        → Passing k read rows o before (record { first = w .first; end = w .end; at = w .at + size; n = w .n + n; storing = w .storing; going = true; answer = a }) (pick (w .storing) (sets list (w .n) (entries k (w .at) vs)) list)
+        → Passing k read window o before (record { base = w .base; first = w .first; end = w .end; at = w .at + size; n = w .n + n; storing = w .storing; going = true; answer = a }) (pick (w .storing) (sets list (w .n) (entries k (w .at) vs)) list)
     goes-on h a =
         let far : w .at + size - w .first ≡ (w .at - w .first) + size = omega (arith, f .going .from) in
         let most : n ≤ size = omega (arith, m, few k (w .at) vs, run-long read (w .at) size vs run) in
         record {
           going = record { on = refl; from = omega (arith, f .going .from); to = h; few = omega (arith, f .going .few) };
+          based = f .based;
           inside = f .inside;
           sized = f .sized;
           asked = f .asked;
@@ -269,7 +272,7 @@ module _ (k : Kept) (read : ℕ → Outcome ℕ) {rows : ℕ} {o : Outcome (List
     module _ (last : w .end ≤ w .at + size) where
       all : readRun read (w .first) (w .end - w .first) ≡ value (f .values ++ vs)
       all =
-          let far : w .end - w .first ≡ (w .at - w .first) + size = omega (arith, f .going .from, chunk-to (w .at) (w .end) size (f .going .to) chunk) in
+          let far : w .end - w .first ≡ (w .at - w .first) + size = omega (arith, f .going .from, chunk-to (w .base + w .at) (w .at) (w .end) size (f .going .to) chunk) in
           ap (readRun read (w .first)) far ∙ longer
 
       found : o ≡ kept k (length before) (w .first) (f .values ++ vs)
@@ -312,13 +315,14 @@ module _ (k : Kept) (read : ℕ → Outcome ℕ) {rows : ℕ} {o : Outcome (List
             record { answer = rw is refl; list = untouched ∙ rw is refl }
 
         pub turns-over : w .n + n ≤ length before → (a : Walked)
-            → Passing k read rows o before (record { first = w .first; end = w .end; at = w .first; n = 0; storing = true; going = true; answer = a }) (pick (w .storing) (sets list (w .n) (entries k (w .at) vs)) list)
+            → Passing k read window o before (record { base = w .base; first = w .first; end = w .end; at = w .first; n = 0; storing = true; going = true; answer = a }) (pick (w .storing) (sets list (w .n) (entries k (w .at) vs)) list)
         unfolding readRun
         turns-over h a =
             let none-done : w .first - w .first ≡ 0 = omega arith in
             let empty : entries k (w .first) [] ≡ [] = nothing _ (omega (arith, few k (w .first) [])) in
             record {
               going = record { on = refl; from = omega arith; to = omega (arith, f .going .from, f .going .to); few = omega arith };
+              based = f .based;
               inside = f .inside;
               sized = f .sized;
               asked = f .asked;
@@ -333,7 +337,7 @@ module _ (k : Kept) (read : ℕ → Outcome ℕ) {rows : ℕ} {o : Outcome (List
 
   pub refuses : (x : Refusal) → readRun read (w .at) size ≡ numbered x → WalkedAs o (Refused x) before list
   refuses x run =
-      let far : w .end - w .first ≡ (w .at - w .first) + (size + (w .end - (w .at + size))) = omega (arith, f .going .from, chunk-to (w .at) (w .end) size (f .going .to) chunk) in
+      let far : w .end - w .first ≡ (w .at - w .first) + (size + (w .end - (w .at + size))) = omega (arith, f .going .from, chunk-to (w .base + w .at) (w .at) (w .end) size (f .going .to) chunk) in
       let stops : readRun read (w .at) (size + (w .end - (w .at + size))) ≡ refusal (paper x .0) (paper x .1) = run-refused read (w .at) size (w .end - (w .at + size)) (paper x .0) (paper x .1) run in
       let all : readRun read (w .first) (w .end - w .first) ≡ refusal (paper x .0) (paper x .1) =
       ap (readRun read (w .first)) far ∙ run-after read (w .first) (w .at - w .first) (size + (w .end - (w .at + size))) (f .values) (f .sofar)

@@ -1,4 +1,4 @@
--- Rows are decoded in chunks, none of which crosses a multiple of 512 rows: what decoding one asks for and answers.
+-- Rows are decoded in chunks, none of which crosses a multiple of 512 of the column's rows: what decoding one asks for and answers.
 -- Assumes nothing.
 use Prim.Native.Nat.{ℕ, _+_, _-_, _*_, _%_, _^_, _≤_, _<_, min}
 use mathlib.Core.Path.{_≡_}
@@ -28,11 +28,11 @@ pub record DecodedAs (o : Outcome (List ℕ)) (r : Decoded) (list : List ℕ) : 
 pub record FilledAs (o : Outcome (List ℕ)) (n r : ℕ) (list : List ℕ) : Type 0 where
   pub answer : filledTo n r list ≡ o
 
--- n rows of a column from r on, at least one, in one block
-pub record Chunk (col : Column) (r n : ℕ) : Type 0 where
+-- n of so many rows from r on, at least one, in one block, where the first of all is row `first` of the column
+pub record Chunk (rows first r n : ℕ) : Type 0 where
   pub some : 0 < n
-  pub rows : r + n ≤ col .rows
-  pub one : r % 512 + n ≤ 512
+  pub inside : r + n ≤ rows
+  pub one : (first + r) % 512 + n ≤ 512
 
 -- what fitting together says of a place: a maximum of 64 bits, a legal width, an area within the bytes, and the place's bits within it if it has any
 pub record Fitting (col : Column) (p : Place) (s : List ℕ) : Type 0 where
@@ -41,6 +41,6 @@ pub record Fitting (col : Column) (p : Place) (s : List ℕ) : Type 0 where
   pub area : col .start + col .size ≤ length s
   pub inside : (p .bits ≡ 0) ⊎ (8 * p .start + (p .row + 1) * p .bits ≤ 8 * col .size)
 
--- the rows of the chunk that begins with row r of the rows up to an end: up to that, or to the next multiple of 512
-abbrev pub chunkSize : (r end : ℕ) → ℕ
-chunkSize r end = min (end - r) (512 - r % 512)
+-- the rows of the chunk that begins with row q of the column, where so many are left: those, or up to the next multiple of 512
+abbrev pub chunkSize : (q left : ℕ) → ℕ
+chunkSize q left = min left (512 - q % 512)

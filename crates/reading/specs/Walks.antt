@@ -1,4 +1,4 @@
--- A walk over the rows of a lookup or a run, chunk by chunk: what it is to store, what its passes have done so far, and what is left. Over any reading.
+-- A walk over the rows of a lookup or a run in a window, chunk by chunk: what it is to store, what its passes have done so far, and what is left. Over any reading.
 -- Assumes nothing.
 use Prim.Native.Nat.{ℕ, _+_, _-_, _%_, _≤_, _<_}
 use mathlib.Core.Path.{_≡_}
@@ -8,12 +8,14 @@ use mathlib.Core.List.{List, [], _∷_}
 use lib.Dec.{leb}
 use lib.ListN.{length}
 use lib.Seq.{sets}
+use Rattle.format.specs.declared.Window.{Window}
 use Rattle.format.specs.Outcome.{Outcome, Outcome.value, _>>=_, _>>_, demand, pick, howMany, stored}
 use Rattle.format.specs.Refusals.{numbered}
 use Rattle.format.specs.Runs.{readRun}
 use Rattle.reading.specs.declared.walks.Walk.{Walk}
 use Rattle.reading.specs.declared.walks.Walked.{Walked}
 use Rattle.reading.specs.declared.walks.Walked.the-variants.{Entries, Refused}
+use Rattle.reading.specs.Chunks.{chunkSize}
 
 -- ---- what is stored
 
@@ -63,6 +65,10 @@ pub record WalkedAs (o : Outcome (List ℕ)) (r : Walked) (before after : List �
 
 -- ---- a walk under way
 
+-- the rows of the chunk at hand
+abbrev pub nextChunk : Walk → ℕ
+nextChunk w = chunkSize (w .base + w .at) (w .end - w .at)
+
 -- it is going on, with rows left in its pass
 pub record Going (w : Walk) : Type 0 where
   pub on : w .going ≡ true
@@ -77,7 +83,7 @@ left w = pick (w .going) (pick (w .storing) (w .end - w .at) ((w .end - w .first
 -- it lies in one chunk, at its beginning, and a list of such a length has room for an entry a row
 pub record Single (room : ℕ) (w : Walk) : Type 0 where
   pub begins : w .at ≡ w .first
-  pub one : w .end - w .at ≤ 512 - w .at % 512
+  pub one : w .end - w .at ≤ 512 - (w .base + w .at) % 512
   pub enough : w .end - w .first ≤ room
 
 -- an outcome that is no refusal
@@ -86,9 +92,10 @@ pub record Good (o : Outcome (List ℕ)) : Type 0 where
   pub is : o ≡ value found
 
 -- in a pass: the rows done read as some values, whose entries are counted, and stand in the list if the pass stores; and it stores only where nothing is refused, or nothing is stored yet
-pub record Passing (k : Kept) (read : ℕ → Outcome ℕ) (rows : ℕ) (o : Outcome (List ℕ)) (before : List ℕ) (w : Walk) (list : List ℕ) : Type 0 where
+pub record Passing (k : Kept) (read : ℕ → Outcome ℕ) (window : Window) (o : Outcome (List ℕ)) (before : List ℕ) (w : Walk) (list : List ℕ) : Type 0 where
   pub going : Going w
-  pub inside : w .end ≤ rows
+  pub based : w .base ≡ window .first
+  pub inside : w .end ≤ window .rows
   pub sized : Sized k (w .end - w .first) (length before)
   pub asked : o ≡ walked k read (w .first) (w .end) (length before)
   pub values : List ℕ
@@ -98,5 +105,5 @@ pub record Passing (k : Kept) (read : ℕ → Outcome ℕ) (rows : ℕ) (o : Out
   pub clean : w .storing ≡ true → Single (length before) w ⊎ Good o
 
 -- a walk under way, which is to find o: in a pass, or over
-pub record Walking (k : Kept) (read : ℕ → Outcome ℕ) (rows : ℕ) (o : Outcome (List ℕ)) (before : List ℕ) (w : Walk) (list : List ℕ) : Type 0 where
-  pub phase : pick (w .going) (Passing k read rows o before w list) (WalkedAs o (w .answer) before list)
+pub record Walking (k : Kept) (read : ℕ → Outcome ℕ) (window : Window) (o : Outcome (List ℕ)) (before : List ℕ) (w : Walk) (list : List ℕ) : Type 0 where
+  pub phase : pick (w .going) (Passing k read window o before w list) (WalkedAs o (w .answer) before list)

@@ -2,22 +2,22 @@
 ghost use mathlib.Core.Path.{_≡_};
 ghost use mathlib.Core.Bool.{Bool};
 ghost use mathlib.Core.List.{List};
-ghost use Prim.Native.Nat.{ℕ, _+_, _/_, _^_, _≤_, _<_, min};
+ghost use Prim.Native.Nat.{ℕ, _+_, _/_, _%_, _^_, _≤_, _<_, min};
 ghost use lib.ListN.{length, set};
 ghost use lib.Seq.{sets};
 ghost use Rattle.format.specs.Outcome.{Outcome, pick};
 ghost use Rattle.format.specs.Lookup.{lookedUp, within};
 ghost use Rattle.format.specs.Reading.{blockAt, rowAt};
 ghost use Rattle.format.specs.Calls.{FoundAs};
-ghost use Rattle.reading.specs.Chunks.{chunkSize};
-ghost use Rattle.reading.specs.Walks.{rowsIn, Kept.rowsOf, WalkedAs, Going, left, Walking};
+ghost use Rattle.reading.specs.Walks.{rowsIn, Kept.rowsOf, WalkedAs, nextChunk, Going, left, Walking};
 use crate::reader::Decoded;
 use crate::walks::Walk;
 use crate::walks::Walked;
 use format::Block;
 use format::Column;
-use format::ColumnRow;
 use format::Found;
+use format::Window;
+use format::WindowRow;
 
 // The end row, cut to so many rows.
 fn cut(end: u32, rows: u32) -> u32
@@ -107,12 +107,13 @@ fn store_within(
     n
 }
 
-// How a lookup of the rows from `first` to `end`, cut to so many rows, begins; where there are none, it is over.
-pub fn begin(rows: u32, first: u32, end: u32) -> Walk
-    ensures { λ w. ⌜ ((read : ℕ → Outcome ℕ) (test : ℕ → Bool) (list : List ℕ) → Walking (rowsOf test) read rows (lookedUp read rows test first end (length list)) list w list) ⌝ }
+// How a lookup of the rows from `first` to `end`, cut to a window's rows, begins; where there are none, it is over.
+pub fn begin(window: Window, first: u32, end: u32) -> Walk
+    ensures { λ w. ⌜ ((read : ℕ → Outcome ℕ) (test : ℕ → Bool) (list : List ℕ) → Walking (rowsOf test) read window (lookedUp read (window .rows) test first end (length list)) list w list) ⌝ }
 {
-    let last = cut(end, rows);
+    let last = cut(end, window.rows);
     Walk {
+        base: window.first,
         first,
         end: last,
         at: first,
@@ -156,11 +157,11 @@ fn step_through(
     values: &mut [u64],
     found: &mut [u32],
 ) -> Walk
-    requires { ⌜ Going w × (w .end ≤ column .rows) × (length (now values) ≡ chunkSize (w .at) (w .end)) ⌝ }
-    ensures { λ r. ⌜ ((table before : List ℕ) (o : Outcome (List ℕ)) → blocks ≡ length table / 4 → block ≡ blockAt table (w .at / 512) → Walking (rowsOf (within low high)) (rowAt column table (now (bytes .entry))) (column .rows) o before w (now (found .entry)) → Walking (rowsOf (within low high)) (rowAt column table (now (bytes .entry))) (column .rows) o before r (now (found .exit))) ⌝ }
+    requires { ⌜ Going w × (w .base ≡ column .window .first) × (w .end ≤ column .window .rows) × (length (now values) ≡ nextChunk w) ⌝ }
+    ensures { λ r. ⌜ ((table before : List ℕ) (o : Outcome (List ℕ)) → blocks ≡ length table / 4 → block ≡ blockAt table ((w .base + w .at) % 2 ^ 32 / 512) → Walking (rowsOf (within low high)) (rowAt column table (now (bytes .entry))) (column .window) o before w (now (found .entry)) → Walking (rowsOf (within low high)) (rowAt column table (now (bytes .entry))) (column .window) o before r (now (found .exit))) ⌝ }
     ensures { λ r. ⌜ left r < left w ⌝ }
 {
-    let decoded = crate::reader::decode(column, blocks, block, bytes, ColumnRow(w.at), values);
+    let decoded = crate::reader::decode(column, blocks, block, bytes, WindowRow(w.at), values);
     if let Decoded::Refused(why) = decoded {
         return crate::walks::over(w, Walked::Refused(why));
     }
@@ -169,7 +170,7 @@ fn step_through(
     crate::walks::advanced(w, values.len(), n, room)
 }
 
-// Internal: asks for a lookup that is going on over rows of the column. One turn: the chunk at hand, with its block out of a table of so many.
+// Internal: asks for a lookup that is going on over rows of the window. One turn: the chunk at hand, with its block out of a table of so many.
 pub fn step(
     column: Column,
     blocks: usize,
@@ -180,12 +181,12 @@ pub fn step(
     w: Walk,
     found: &mut [u32],
 ) -> Walk
-    requires { ⌜ Going w × (w .end ≤ column .rows) ⌝ }
-    ensures { λ r. ⌜ ((table before : List ℕ) (o : Outcome (List ℕ)) → blocks ≡ length table / 4 → block ≡ blockAt table (w .at / 512) → Walking (rowsOf (within low high)) (rowAt column table (now (bytes .entry))) (column .rows) o before w (now (found .entry)) → Walking (rowsOf (within low high)) (rowAt column table (now (bytes .entry))) (column .rows) o before r (now (found .exit))) ⌝ }
+    requires { ⌜ Going w × (w .base ≡ column .window .first) × (w .end ≤ column .window .rows) ⌝ }
+    ensures { λ r. ⌜ ((table before : List ℕ) (o : Outcome (List ℕ)) → blocks ≡ length table / 4 → block ≡ blockAt table ((w .base + w .at) % 2 ^ 32 / 512) → Walking (rowsOf (within low high)) (rowAt column table (now (bytes .entry))) (column .window) o before w (now (found .entry)) → Walking (rowsOf (within low high)) (rowAt column table (now (bytes .entry))) (column .window) o before r (now (found .exit))) ⌝ }
     ensures { λ r. ⌜ left r < left w ⌝ }
 {
     let mut buffer = [0u64; 512];
-    let size = crate::walks::chunk_size(w.at, w.end);
+    let size = crate::walks::chunk_of(w);
     step_through(
         column,
         blocks,

@@ -1,11 +1,11 @@
 // Reading a row, with its block out of the table.
 ghost use mathlib.Core.Path.{_≡_};
 ghost use mathlib.Core.Bool.{true, _||_};
-ghost use Prim.Native.Nat.{_+_, _*_, _^_, _≤_};
+ghost use Prim.Native.Nat.{_+_, _*_, _%_, _^_, _≤_};
 ghost use lib.Dec.{leb, eqb};
 ghost use lib.ListN.{length};
 ghost use Rattle.format.specs.Packing.{legal};
-ghost use Rattle.format.specs.Reading.{hasBlock, placeOf, columnFits, rowFits, fits, valueAt, rowIn};
+ghost use Rattle.format.specs.Reading.{hasBlock, windowFits, placeOf, columnFits, rowFits, fits, valueAt, rowIn};
 ghost use Rattle.format.specs.Runs.{readRun};
 ghost use Rattle.format.specs.Refusals.{rowMeaning};
 ghost use Rattle.reading.specs.Chunks.{DecodedAs, FilledAs, Chunk, Fitting};
@@ -16,6 +16,7 @@ use format::ColumnRow;
 use format::Place;
 use format::Refusal;
 use format::RowRead;
+use format::WindowRow;
 
 // The place of a row's number, by the codec.
 fn place_of(column: Column, block: Block, row: ColumnRow) -> Place
@@ -79,10 +80,28 @@ fn ends_inside(size: usize, place: Place) -> bool
     (end + 7) / 8 <= area - place.start
 }
 
+// A row of a window, as the column counts it, whose row `first` is the window's first; modulo 2^32, which shows only where the window leaves the column.
+pub fn column_row(first: u32, row: WindowRow) -> ColumnRow
+    ensures { λ q. ⌜ q .0 ≡ (first + row .0) % 2 ^ 32 ⌝ }
+{
+    let at = first as u64 + row.0 as u64;
+    ColumnRow((at % 0x1_0000_0000) as u32)
+}
+
+// Whether the window lies in the column.
+pub fn window_fits(column: Column) -> bool
+    ensures { λ r. ⌜ r ≡ windowFits column ⌝ }
+{
+    column.window.first as u64 + column.window.rows as u64 <= column.rows as u64
+}
+
 // Whether column and bytes fit together, whatever the row.
 fn column_fits(column: Column, bytes: &[u8]) -> bool
     ensures { λ r. ⌜ r ≡ columnFits column (now (bytes .entry)) ⌝ }
 {
+    if !window_fits(column) {
+        return false;
+    }
     if column.gcd == 0 {
         return false;
     }
@@ -117,22 +136,34 @@ fn fits(column: Column, blocks: usize, block: Block, bytes: &[u8], row: ColumnRo
     row_fits(column, blocks, block, row)
 }
 
-// A row of the column, with its block out of a table of so many: whether there is such a row, whether column, table and bytes fit
-// together there, and its value.
-pub fn row_in(column: Column, blocks: usize, block: Block, bytes: &[u8], row: ColumnRow) -> RowRead
-    ensures { λ r. ⌜ rowMeaning r ≡ rowIn column blocks block (now (bytes .entry)) (row .0) ⌝ }
+// Internal: asks for a row at which all fits together. Its value, by the codec.
+fn value_of(column: Column, block: Block, bytes: &[u8], row: ColumnRow) -> RowRead
+    requires { ⌜ Fitting column (placeOf column block (row .0)) (now bytes) ⌝ }
+    ensures { λ r. ⌜ rowMeaning r ≡ valueAt column block (now (bytes .entry)) (row .0) ⌝ }
 {
-    if column.rows <= row.0 {
-        return RowRead::Refused(Refusal::NoSuchRow);
-    }
-    if !fits(column, blocks, block, bytes, row) {
-        return RowRead::Refused(Refusal::Unfit);
-    }
     let codec = column.codec;
     match codec {
         Codec::Bitpacked => bitpacked::reader::get_val(column, bytes, row),
         Codec::Linear(line, bits) => linear::reader::get_val(column, line, bits, bytes, row),
         Codec::Blockwise => blockwise_linear::reader::get_val(column, block, bytes, row),
+    }
+}
+
+// A row of the column's window, with its block out of a table of so many: whether there is such a row, whether column, table and
+// bytes fit together there, and its value. A row out of bounds is named as it was asked for.
+pub fn row_in(column: Column, blocks: usize, block: Block, bytes: &[u8], row: WindowRow) -> RowRead
+    ensures { λ r. ⌜ rowMeaning r ≡ rowIn column blocks block (now (bytes .entry)) (row .0) ⌝ }
+{
+    if column.window.rows <= row.0 {
+        return RowRead::Refused(Refusal::NoSuchRow);
+    }
+    let at = column_row(column.window.first, row);
+    if !fits(column, blocks, block, bytes, at) {
+        return RowRead::Refused(Refusal::Unfit);
+    }
+    match value_of(column, block, bytes, at) {
+        RowRead::Value(v) => RowRead::Value(v),
+        RowRead::Refused(_) => RowRead::Refused(Refusal::OutOfBounds { row: row.0 }),
     }
 }
 
@@ -148,7 +179,7 @@ fn decode_rows(
     blocks: usize,
     block: Block,
     bytes: &[u8],
-    first: ColumnRow,
+    first: WindowRow,
     out: &mut [u64],
 ) -> Decoded
     requires { ⌜ first .0 + length (now out) ≤ 2 ^ 32 ⌝ }
@@ -156,7 +187,7 @@ fn decode_rows(
 {
     let mut i = 0;
     while i < out.len() {
-        let v = match row_in(column, blocks, block, bytes, ColumnRow(first.0 + i as u32)) {
+        let v = match row_in(column, blocks, block, bytes, WindowRow(first.0 + i as u32)) {
             RowRead::Value(v) => v,
             RowRead::Refused(why) => return Decoded::Refused(why),
         };
@@ -166,7 +197,7 @@ fn decode_rows(
     Decoded::Whole
 }
 
-// Internal: asks for a chunk that fits as a whole. Its rows with no test but that of the bounds; returns how many rows stand in the list.
+// Internal: asks for rows of the column, in one block, that fit as a whole. Their values with no test but that of the bounds; returns how many rows stand in the list.
 fn decode_fitting(
     column: Column,
     block: Block,
@@ -174,7 +205,7 @@ fn decode_fitting(
     first: ColumnRow,
     out: &mut [u64],
 ) -> usize
-    requires { ⌜ Chunk column (first .0) (length (now out)) ⌝ }
+    requires { ⌜ Chunk (column .rows) 0 (first .0) (length (now out)) ⌝ }
     requires { ⌜ Fitting column (placeOf column block (first .0)) (now bytes) ⌝ }
     ensures { λ n. ⌜ FilledAs (readRun (valueAt column block (now (bytes .entry))) (first .0) (length (now (out .entry)))) n (first .0) (now (out .exit)) ⌝ }
 {
@@ -188,24 +219,28 @@ fn decode_fitting(
     }
 }
 
-// Internal: asks for a chunk: rows of the column, at least one, that lie in one block. Their values, with the block out of a table of so many. What fits at the last row fits at all of
+// Internal: asks for a chunk: rows of the window, at least one, that lie in one block. Their values, with the block out of a table of so many. What fits at the last row fits at all of
 // them, so that one test serves the chunk.
 pub fn decode(
     column: Column,
     blocks: usize,
     block: Block,
     bytes: &[u8],
-    first: ColumnRow,
+    first: WindowRow,
     out: &mut [u64],
 ) -> Decoded
-    requires { ⌜ Chunk column (first .0) (length (now out)) ⌝ }
+    requires { ⌜ Chunk (column .window .rows) (column .window .first) (first .0) (length (now out)) ⌝ }
     ensures { λ r. ⌜ DecodedAs (readRun (rowIn column blocks block (now (bytes .entry))) (first .0) (length (now (out .entry)))) r (now (out .exit)) ⌝ }
 {
-    let last = first.0 + (out.len() - 1) as u32;
-    if !fits(column, blocks, block, bytes, ColumnRow(last)) {
+    let last = column_row(
+        column.window.first,
+        WindowRow(first.0 + (out.len() - 1) as u32),
+    );
+    if !fits(column, blocks, block, bytes, last) {
         return decode_rows(column, blocks, block, bytes, first, out);
     }
-    let n = decode_fitting(column, block, bytes, first, out);
+    let at = column_row(column.window.first, first);
+    let n = decode_fitting(column, block, bytes, at, out);
     if n < out.len() {
         return Decoded::Refused(Refusal::OutOfBounds {
             row: first.0 + n as u32,

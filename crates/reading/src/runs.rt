@@ -2,29 +2,30 @@
 ghost use mathlib.Core.Path.{_≡_};
 ghost use mathlib.Core.Bool.{false};
 ghost use mathlib.Core.List.{List};
-ghost use Prim.Native.Nat.{ℕ, _+_, _-_, _/_, _≤_, _<_};
+ghost use Prim.Native.Nat.{ℕ, _+_, _-_, _/_, _%_, _^_, _≤_, _<_};
 ghost use lib.ListN.{length};
 ghost use lib.Seq.{sets};
 ghost use Rattle.format.specs.Outcome.{Outcome, pick};
 ghost use Rattle.format.specs.Reading.{blockAt, rowAt};
 ghost use Rattle.format.specs.Runs.{decoded};
 ghost use Rattle.format.specs.Calls.{RunAs};
-ghost use Rattle.reading.specs.Chunks.{chunkSize};
-ghost use Rattle.reading.specs.Walks.{Kept.allValues, WalkedAs, Going, left, Walking};
+ghost use Rattle.reading.specs.Walks.{Kept.allValues, WalkedAs, nextChunk, Going, left, Walking};
 use crate::reader::Decoded;
 use crate::walks::Walk;
 use crate::walks::Walked;
 use format::Block;
 use format::Column;
-use format::ColumnRow;
 use format::Refusal;
 use format::RunRead;
+use format::Window;
+use format::WindowRow;
 
 // A run that is over before it begins.
 fn settled(first: u32, answer: Walked) -> Walk
     ensures { λ r. ⌜ (r .going ≡ false) × (r .answer ≡ answer) ⌝ }
 {
     Walk {
+        base: 0,
         first,
         end: first,
         at: first,
@@ -35,26 +36,28 @@ fn settled(first: u32, answer: Walked) -> Walk
     }
 }
 
-// How a run of `n` rows from `first` on begins: where it leaves the rows, or has none, it is over.
-pub fn begin(rows: u32, first: u32, n: usize) -> Walk
-    ensures { λ w. ⌜ ((read : ℕ → Outcome ℕ) (list : List ℕ) → length list ≡ n → Walking allValues read rows (decoded read rows first n) list w list) ⌝ }
+// How a run of `n` rows from `first` on in a window begins: where it leaves the rows, or has none, it is over.
+pub fn begin(window: Window, first: u32, n: usize) -> Walk
+    ensures { λ w. ⌜ ((read : ℕ → Outcome ℕ) (list : List ℕ) → length list ≡ n → Walking allValues read window (decoded read (window .rows) first n) list w list) ⌝ }
 {
-    if rows < first {
+    if window.rows < first {
         return settled(first, Walked::Refused(Refusal::NoSuchRow));
     }
-    if ((rows - first) as usize) < n {
+    if ((window.rows - first) as usize) < n {
         return settled(first, Walked::Refused(Refusal::NoSuchRow));
     }
     if n == 0 {
         return settled(first, Walked::Entries(0));
     }
     let end = first + n as u32;
+    let at = crate::reader::column_row(window.first, WindowRow(first));
     Walk {
+        base: window.first,
         first,
         end,
         at: first,
         n: 0,
-        storing: end - first <= 512 - first % 512,
+        storing: end - first <= 512 - at.0 % 512,
         going: true,
         answer: Walked::Entries(n),
     }
@@ -93,11 +96,11 @@ fn step_through(
     values: &mut [u64],
     out: &mut [u64],
 ) -> Walk
-    requires { ⌜ Going w × (w .end ≤ column .rows) × (length (now values) ≡ chunkSize (w .at) (w .end)) × (length (now out) ≡ w .end - w .first) × (w .n ≡ w .at - w .first) ⌝ }
-    ensures { λ r. ⌜ ((table before : List ℕ) (o : Outcome (List ℕ)) → blocks ≡ length table / 4 → block ≡ blockAt table (w .at / 512) → Walking allValues (rowAt column table (now (bytes .entry))) (column .rows) o before w (now (out .entry)) → Walking allValues (rowAt column table (now (bytes .entry))) (column .rows) o before r (now (out .exit))) ⌝ }
+    requires { ⌜ Going w × (w .base ≡ column .window .first) × (w .end ≤ column .window .rows) × (length (now values) ≡ nextChunk w) × (length (now out) ≡ w .end - w .first) × (w .n ≡ w .at - w .first) ⌝ }
+    ensures { λ r. ⌜ ((table before : List ℕ) (o : Outcome (List ℕ)) → blocks ≡ length table / 4 → block ≡ blockAt table ((w .base + w .at) % 2 ^ 32 / 512) → Walking allValues (rowAt column table (now (bytes .entry))) (column .window) o before w (now (out .entry)) → Walking allValues (rowAt column table (now (bytes .entry))) (column .window) o before r (now (out .exit))) ⌝ }
     ensures { λ r. ⌜ left r < left w ⌝ }
 {
-    let answer = crate::reader::decode(column, blocks, block, bytes, ColumnRow(w.at), values);
+    let answer = crate::reader::decode(column, blocks, block, bytes, WindowRow(w.at), values);
     if let Decoded::Refused(why) = answer {
         return crate::walks::over(w, Walked::Refused(why));
     }
@@ -106,7 +109,7 @@ fn step_through(
     crate::walks::advanced(w, values.len(), values.len(), room)
 }
 
-// Internal: asks for a run that is going on over rows of the column, and a list of its length. One turn: the chunk at hand, with its block out of a table of so many.
+// Internal: asks for a run that is going on over rows of the window, and a list of its length. One turn: the chunk at hand, with its block out of a table of so many.
 pub fn step(
     column: Column,
     blocks: usize,
@@ -115,12 +118,12 @@ pub fn step(
     w: Walk,
     out: &mut [u64],
 ) -> Walk
-    requires { ⌜ Going w × (w .end ≤ column .rows) × (length (now out) ≡ w .end - w .first) × (w .n ≡ w .at - w .first) ⌝ }
-    ensures { λ r. ⌜ ((table before : List ℕ) (o : Outcome (List ℕ)) → blocks ≡ length table / 4 → block ≡ blockAt table (w .at / 512) → Walking allValues (rowAt column table (now (bytes .entry))) (column .rows) o before w (now (out .entry)) → Walking allValues (rowAt column table (now (bytes .entry))) (column .rows) o before r (now (out .exit))) ⌝ }
+    requires { ⌜ Going w × (w .base ≡ column .window .first) × (w .end ≤ column .window .rows) × (length (now out) ≡ w .end - w .first) × (w .n ≡ w .at - w .first) ⌝ }
+    ensures { λ r. ⌜ ((table before : List ℕ) (o : Outcome (List ℕ)) → blocks ≡ length table / 4 → block ≡ blockAt table ((w .base + w .at) % 2 ^ 32 / 512) → Walking allValues (rowAt column table (now (bytes .entry))) (column .window) o before w (now (out .entry)) → Walking allValues (rowAt column table (now (bytes .entry))) (column .window) o before r (now (out .exit))) ⌝ }
     ensures { λ r. ⌜ left r < left w ⌝ }
 {
     let mut buffer = [0u64; 512];
-    let size = crate::walks::chunk_size(w.at, w.end);
+    let size = crate::walks::chunk_of(w);
     step_through(column, blocks, block, bytes, w, &mut buffer[..size], out)
 }
 

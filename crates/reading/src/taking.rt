@@ -1,17 +1,17 @@
 // A chunk of rows for callers that take refused rows one by one: its values up to the first that reading refuses, and that refusal.
 ghost use mathlib.Core.List.{List};
 ghost use mathlib.Core.Path.{_≡_};
-ghost use Prim.Native.Nat.{_+_, _^_, _≤_, _<_};
+ghost use Prim.Native.Nat.{_+_, _-_, _^_, _≤_, _<_};
 ghost use lib.ListN.{length};
-ghost use Rattle.format.specs.Reading.{rowIn};
+ghost use Rattle.format.specs.Reading.{columnRow, rowIn};
 ghost use Rattle.reading.specs.Chunks.{Chunk, chunkSize};
 ghost use Rattle.reading.specs.Stretch.{StretchAs};
 use crate::reader::Decoded;
 use format::Block;
 use format::Column;
-use format::ColumnRow;
 use format::Refusal;
 use format::RowRead;
+use format::WindowRow;
 
 // So many rows of a chunk read as values: all of its rows, or those before the one that is refused.
 pub enum Stretch {
@@ -39,7 +39,7 @@ fn store_rows(
             blocks,
             block,
             bytes,
-            ColumnRow(first + i as u32),
+            WindowRow(first + i as u32),
         ) {
             RowRead::Value(v) => v,
             RowRead::Refused(why) => return Stretch::Stopped(i, why),
@@ -60,11 +60,11 @@ fn take_through(
     values: &mut [u64],
     out: &mut [u64],
 ) -> Stretch
-    requires { ⌜ Chunk column first (length (now values)) × (length (now values) ≤ length (now out)) ⌝ }
+    requires { ⌜ Chunk (column .window .rows) (column .window .first) first (length (now values)) × (length (now values) ≤ length (now out)) ⌝ }
     ensures { λ r. ⌜ StretchAs (rowIn column blocks block (now (bytes .entry))) first (length (now (values .entry))) r (now (out .entry)) (now (out .exit)) ⌝ }
 {
     let size = values.len();
-    let answer = crate::reader::decode(column, blocks, block, bytes, ColumnRow(first), values);
+    let answer = crate::reader::decode(column, blocks, block, bytes, WindowRow(first), values);
     match answer {
         Decoded::Whole => {
             crate::runs::copy(values, out, 0);
@@ -74,7 +74,7 @@ fn take_through(
     }
 }
 
-// The chunk that begins with a row, with its block out of a table of so many, into the front of a list of 512 entries.
+// The chunk that begins with a row of the window, with its block out of a table of so many, into the front of a list of 512 entries.
 pub fn take(
     column: Column,
     blocks: usize,
@@ -83,13 +83,14 @@ pub fn take(
     first: u32,
     out: &mut [u64; 512],
 ) -> Stretch
-    ensures { λ r. ⌜ StretchAs (rowIn column blocks block (now (bytes .entry))) first (chunkSize first (column .rows)) r (now (out .entry)) (now (out .exit)) ⌝ }
+    ensures { λ r. ⌜ StretchAs (rowIn column blocks block (now (bytes .entry))) first (chunkSize (columnRow column first) (column .window .rows - first)) r (now (out .entry)) (now (out .exit)) ⌝ }
 {
-    if column.rows <= first {
+    if column.window.rows <= first {
         return Stretch::Whole(0);
     }
     let mut buffer = [0u64; 512];
-    let size = crate::walks::chunk_size(first, column.rows);
+    let at = crate::reader::column_row(column.window.first, WindowRow(first));
+    let size = crate::walks::chunk_size(at, column.window.rows - first);
     take_through(
         column,
         blocks,

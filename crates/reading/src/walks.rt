@@ -4,15 +4,17 @@
 ghost use mathlib.Core.Path.{_≡_};
 ghost use mathlib.Core.Bool.{false};
 ghost use mathlib.Core.List.{List};
-ghost use Prim.Native.Nat.{ℕ, _/_, _≤_, _<_};
+ghost use Prim.Native.Nat.{ℕ, _+_, _/_, _%_, _^_, _≤_, _<_};
 ghost use lib.ListN.{length};
 ghost use lib.Seq.{sets};
+ghost use Rattle.format.specs.declared.Window.{Window};
 ghost use Rattle.format.specs.Outcome.{Outcome, Outcome.value, pick};
 ghost use Rattle.format.specs.Runs.{readRun};
 ghost use Rattle.reading.specs.Chunks.{chunkSize};
-ghost use Rattle.reading.specs.Walks.{Kept, entries, Going, left, Passing, Walking};
+ghost use Rattle.reading.specs.Walks.{Kept, entries, nextChunk, Going, left, Passing, Walking};
 use format::ColumnRow;
 use format::Refusal;
+use format::WindowRow;
 
 // How a walk ends: so many entries were stored, or nothing was.
 pub enum Walked {
@@ -21,8 +23,9 @@ pub enum Walked {
 }
 
 // A walk under way: in the pass at hand, the rows before `at` are done, and `n` entries were found for them. While it is going on, it stores or only looks; then
-// its answer stands.
+// its answer stands. Row 0 is row `base` of the column.
 pub struct Walk {
+    pub base: u32,
     pub first: u32,
     pub end: u32,
     pub at: u32,
@@ -32,24 +35,38 @@ pub struct Walk {
     pub answer: Walked,
 }
 
-// The block of the chunk at hand.
-pub fn block_of(w: Walk) -> usize
-    ensures { λ r. ⌜ r ≡ w .at / 512 ⌝ }
+// The column's row that the chunk at hand begins with.
+fn row_of(w: Walk) -> ColumnRow
+    ensures { λ q. ⌜ q .0 ≡ (w .base + w .at) % 2 ^ 32 ⌝ }
 {
-    blockwise_linear::reader::split(ColumnRow(w.at)).block
+    crate::reader::column_row(w.base, WindowRow(w.at))
 }
 
-// The rows of the chunk at hand: up to the end, or to the next multiple of 512.
-pub fn chunk_size(at: u32, end: u32) -> usize
-    requires { ⌜ at < end ⌝ }
-    ensures { λ r. ⌜ r ≡ chunkSize at end ⌝ }
+// The block of the chunk at hand.
+pub fn block_of(w: Walk) -> usize
+    ensures { λ r. ⌜ r ≡ (w .base + w .at) % 2 ^ 32 / 512 ⌝ }
 {
-    let whole = 512 - at % 512;
-    if end - at < whole {
-        (end - at) as usize
+    blockwise_linear::reader::split(row_of(w)).block
+}
+
+// The rows of the chunk that begins with a row of the column, where so many are left: those, or up to the next multiple of 512.
+pub fn chunk_size(at: ColumnRow, left: u32) -> usize
+    ensures { λ r. ⌜ r ≡ chunkSize (at .0) left ⌝ }
+{
+    let whole = 512 - at.0 % 512;
+    if left < whole {
+        left as usize
     } else {
         whole as usize
     }
+}
+
+// Internal: asks for a walk that is going on. The rows of the chunk at hand.
+pub(crate) fn chunk_of(w: Walk) -> usize
+    requires { ⌜ w .at < w .end ⌝ }
+    ensures { λ r. ⌜ r ≡ nextChunk w ⌝ }
+{
+    chunk_size(row_of(w), w.end - w.at)
 }
 
 // The end of a walk, with its answer.
@@ -57,6 +74,7 @@ pub fn over(w: Walk, answer: Walked) -> Walk
     ensures { λ r. ⌜ (r .going ≡ false) × (r .answer ≡ answer) ⌝ }
 {
     Walk {
+        base: w.base,
         first: w.first,
         end: w.end,
         at: w.at,
@@ -70,8 +88,8 @@ pub fn over(w: Walk, answer: Walked) -> Walk
 // Internal: asks for a walk that is going on, and the chunk at hand. Behind the chunk, for whose rows `n` entries were found, and stored if the pass stores: goes on with the
 // rows behind it, or with the second pass; it is over where all is stored, where nothing is to be stored, or where the list has no room.
 pub fn advanced(w: Walk, size: usize, n: usize, room: usize) -> Walk
-    requires { ⌜ Going w × (size ≡ chunkSize (w .at) (w .end)) × (n ≤ size) ⌝ }
-    ensures { λ r. ⌜ ((k : Kept) (read : ℕ → Outcome ℕ) (rows : ℕ) (o : Outcome (List ℕ)) (before list values : List ℕ) → Passing k read rows o before w list → readRun read (w .at) size ≡ value values → n ≡ length (entries k (w .at) values) → room ≡ length before → Walking k read rows o before r (pick (w .storing) (sets list (w .n) (entries k (w .at) values)) list)) ⌝ }
+    requires { ⌜ Going w × (size ≡ nextChunk w) × (n ≤ size) ⌝ }
+    ensures { λ r. ⌜ ((k : Kept) (read : ℕ → Outcome ℕ) (window : Window) (o : Outcome (List ℕ)) (before list values : List ℕ) → Passing k read window o before w list → readRun read (w .at) size ≡ value values → n ≡ length (entries k (w .at) values) → room ≡ length before → Walking k read window o before r (pick (w .storing) (sets list (w .n) (entries k (w .at) values)) list)) ⌝ }
     ensures { λ r. ⌜ left r < left w ⌝ }
 {
     let at = w.at + size as u32;
@@ -79,6 +97,7 @@ pub fn advanced(w: Walk, size: usize, n: usize, room: usize) -> Walk
     let answer = w.answer;
     if at < w.end {
         return Walk {
+            base: w.base,
             first: w.first,
             end: w.end,
             at,
@@ -98,6 +117,7 @@ pub fn advanced(w: Walk, size: usize, n: usize, room: usize) -> Walk
         return over(w, Walked::Entries(0));
     }
     Walk {
+        base: w.base,
         first: w.first,
         end: w.end,
         at: w.first,

@@ -1,10 +1,11 @@
 -- What the rows of a column answer that a program opened.
+--     here-rows           its window has all rows
 --     here-lacking        a row that it lacks: 12
 --     here-answers        a lent table that was filled answers as the opening's own numbers do
 --     here-sayable        an answer is one that a line has room for
 -- Assumes nothing.
 use Prim.Native.Nat.{ℕ, _+_, _*_, _/_, _%_, _^_, _≤_, _<_}
-use mathlib.Core.Path.{_≡_, refl, sym, _∙_}
+use mathlib.Core.Path.{_≡_, refl, sym, ap, _∙_}
 use mathlib.Core.Bool.{Bool, true, false, _&&_}
 use mathlib.Core.Logic.{⊎-elim}
 use mathlib.Core.List.{List, [], _∷_}
@@ -17,14 +18,14 @@ use Rattle.format.specs.declared.Block.{Block}
 use Rattle.format.specs.declared.Codec.{Codec}
 use Rattle.format.specs.declared.Codec.the-variants.{Bitpacked, Linear, Blockwise}
 use Rattle.format.specs.declared.Column.{Column}
-use Rattle.format.specs.Outcome.{Outcome.value, Outcome.refusal, _>>_, demand}
+use Rattle.format.specs.Outcome.{Outcome, Outcome.value, Outcome.refusal, _>>_, demand}
 use Rattle.format.specs.Word.{modAdd}
 use Rattle.format.specs.Line.{lineAt}
 use Rattle.format.specs.Opening.{Loaded}
-use Rattle.format.specs.Reading.{blockAt, packedOf, valueIn, rowIn, rowAt}
+use Rattle.format.specs.Reading.{columnRow, blockAt, packedOf, valueIn, valueAt, askedAs, rowIn, rowAt}
 use Rattle.format.specs.Demands.{filledBy, answered}
 use Rattle.format.specs.Listing.{openedHere}
-use Rattle.format.proofs.Laid.{opened-laid}
+use Rattle.format.proofs.Laid.{opened-laid, opened-whole}
 use Rattle.format.proofs.Lists.{below-or}
 use Rattle.format.proofs.Rows.{filled-row, answer-is}
 use Rattle.text.proofs.Limits.{here-opened}
@@ -52,20 +53,32 @@ module _ (col : Column) (bounds : col .minimum + col .count * col .gcd < 2 ^ 64)
       let multiple = modAdd (lineAt (b .line) (r % 512)) n in
       scaled-sayable r multiple (leb multiple (col .count)) refl
 
+-- a row named otherwise is as long to say
+asked-sayable : (r : ℕ) (o : Outcome ℕ) → Sayable o → Sayable (askedAs r o)
+asked-sayable r (value v) h = h
+asked-sayable r (refusal number also) h = h
+
 -- ---- a row of a column that a program opened
 
 module _ (s : List ℕ) (o : Loaded) (found : openedHere s ≡ value o) where
+  -- its window is the whole column
+  from : 0 ≡ o .column .window .first
+  from = ap (λ (l : Loaded). l .column .window .first) (opened-whole s 2048 o (here-opened s o found))
+
+  pub here-rows : o .column .rows ≡ o .column .window .rows
+  here-rows = ap (λ (l : Loaded). l .column .window .rows) (opened-whole s 2048 o (here-opened s o found))
+
   -- one that it lacks
   pub here-lacking : (r : ℕ) (table : List ℕ) → o .column .rows ≤ r → rowAt (o .column) table s r ≡ refusal 12 []
   unfolding rowIn
-  here-lacking r table h = simp (le-ltb r (o .column .rows) h)
+  here-lacking r table h = rw (le-ltb r (o .column .window .rows) (omega (arith, here-rows)))
 
   -- by a lent table that was filled
   pub here-answers : (table : List ℕ) → 8192 ≤ length table → (r : ℕ) → answered o table s r ≡ rowAt (o .column) (o .table) s r
   here-answers table enough r =
       ⊎-elim
       (λ inside. let laid = opened-laid s 2048 o (here-opened s o found) in
-      filled-row o table s r (omega (arith, laid .table)) (laid .rows .present r inside))
+      filled-row o table s r (omega (arith, laid .table)) (laid .rows .present (columnRow (o .column) r) (omega (arith, from))))
       (λ over. here-lacking r (filledBy o table) over ∙ sym (here-lacking r (o .table) over))
       (below-or r (o .column .rows))
 
@@ -74,7 +87,9 @@ module _ (s : List ℕ) (o : Loaded) (found : openedHere s ≡ value o) where
   here-sayable table enough r =
       ⊎-elim
       (λ inside. let laid = opened-laid s 2048 o (here-opened s o found) in
-      rw (answer-is laid s (omega arith) r inside table enough)
-      (value-sayable (o .column) (laid .head .bounds) (o .column .codec) (blockAt (o .table) (r / 512)) r (packedOf (o .column) (blockAt (o .table) (r / 512)) s r)))
+      let q = columnRow (o .column) r in
+      rw (answer-is laid s (omega arith) r (omega (arith, here-rows)) table enough)
+      (asked-sayable r (valueAt (o .column) (blockAt (o .table) (q / 512)) s q)
+      (value-sayable (o .column) (laid .head .bounds) (o .column .codec) (blockAt (o .table) (q / 512)) q (packedOf (o .column) (blockAt (o .table) (q / 512)) s q))))
       (λ over. rw (here-lacking r (filledBy o table) over) (omega arith))
       (below-or r (o .column .rows))

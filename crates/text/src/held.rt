@@ -6,8 +6,8 @@ ghost use Rattle.format.specs.Refusals.{rowMeaning};
 ghost use Rattle.reading.specs.Stretch.{counted};
 ghost use Rattle.text.specs.Holding.{Holds};
 use format::Column;
-use format::ColumnRow;
 use format::RowRead;
+use format::WindowRow;
 use reading::taking::Stretch;
 
 // What a list holds: the values of so many rows from `first` on, out of a block.
@@ -50,7 +50,7 @@ pub fn hold(
     requires { ⌜ Holds (rowAt column (now table) (now bytes)) held (now values) ⌝ }
     ensures { λ r. ⌜ Holds (rowAt column (now (table .entry)) (now (bytes .entry))) r (now (values .exit)) ⌝ }
 {
-    let block = row / 512;
+    let block = reading::reader::column_row(column.window.first, WindowRow(row)).0 / 512;
     if held.block == block {
         return held;
     }
@@ -80,5 +80,5 @@ pub fn answer(
             return RowRead::Value(values[place]);
         }
     }
-    u64_based::row(column, table, bytes, ColumnRow(row))
+    u64_based::row(column, table, bytes, WindowRow(row))
 }

@@ -1,8 +1,8 @@
 -- The demands, of the calls' own answers: from the contracts of `serialize`, `open`, `row` and `lookup`, and the theorems of `format`.
 --     Opens, opens                       what an answer of `open` that is a column comes from
 --     reads, written-of, front-of        what a call left is what was found
---     own-rows, own-fits                 an opened column answers its own rows with a value or 14: never 12, never 13; it fits together with its own bytes and table
---     Returned, calls-return             demand 2: what was written opens, and `row` and `lookup` give the values back
+--     own-rows, own-fits                 a column that was opened and narrowed answers its own rows with a value or 14: never 12, never 13; it fits together with its own bytes and table
+--     Shows, Returned, calls-return      demand 2: what was written opens, and through any window in it `row` and `lookup` give the values back
 --     by-sheet, calls-pass               .. under either sheet
 --     Told, calls-tell                   demand 3: what `row` answers depends on its row's own bits, and tells every change of them
 -- Assumes nothing.
@@ -24,6 +24,7 @@ use Rattle.format.specs.declared.Spelling.{Spelling}
 use Rattle.format.specs.declared.Spelling.the-variants.{Shortest}
 use Rattle.format.specs.declared.RowRead.{RowRead}
 use Rattle.format.specs.declared.RowRead.the-variants.{Value, Refused as NotRead}
+use Rattle.format.specs.declared.Window.{Window}
 use Rattle.format.specs.declared.Written.the-variants.{Length}
 use Rattle.format.specs.Outcome.{Outcome, Outcome.value, Outcome.refusal}
 use Rattle.format.specs.Word.{AllBelow}
@@ -32,12 +33,13 @@ use Rattle.format.specs.Bodies.{blockCount}
 use Rattle.format.specs.Writing.{written}
 use Rattle.format.specs.Opening.{Loaded, opened}
 use Rattle.format.specs.Sheets.{openedUnder}
-use Rattle.format.specs.Reading.{blockAt, fits, rowIn, rowAt}
+use Rattle.format.specs.Reading.{columnRow, blockAt, fits, rowIn, rowAt}
+use Rattle.format.specs.Windows.{windowed, inWindow}
 use Rattle.format.specs.Lookup.{lookedUp, within}
-use Rattle.format.specs.Demands.{filledBy, answered, readsAs, GivesBack, Alike, SameBits, Differ, RowsTell}
+use Rattle.format.specs.Demands.{filledBy, answered, shown, readsAs, GivesBack, Alike, SameBits, Differ, RowsTell}
 use Rattle.format.proofs.Answers.{row-injective, opened-injective}
 use Rattle.format.proofs.Outcomes.{not-value, value-same}
-use Rattle.format.proofs.Rows.{own-row}
+use Rattle.format.proofs.Windows.{NarrowedFrom, own-windows, never-unfit}
 use Rattle.format.proofs.Writes.{written-as}
 use Rattle.format.proofs.Demand2.{demand2, written-shortest, written-passes}
 use Rattle.format.proofs.Demand3.{demand3}
@@ -61,42 +63,42 @@ opens s table after c p r = go (opened s (length table / 4)) refl r
         (o, record { found = is; column = sym (ap (λ (a : Column × Spelling). a .0) same); spelling = sym (ap (λ (a : Column × Spelling). a .1) same); filled = r .table })
     go (refusal number also) is r = absurd (not-value (sym (r .answer)))
 
--- reading with what the call left is the demands' reading
-pub reads : {s table after : List ℕ} {c : Column} {p : Spelling} {o : Loaded} → Opens s table after c p o → (r : ℕ) → rowAt c after s r ≡ answered o table s r
-reads {s} {table} {after} {c} {p} {o} e r = rw (e .filled, ← (e .column))
+-- reading a window with what the call left is the demands' reading
+pub reads : {s table after : List ℕ} {c : Column} {p : Spelling} {o : Loaded} → Opens s table after c p o → (w : Window) (r : ℕ) → rowAt (windowed c w) after s r ≡ answered (inWindow o w) table s r
+reads {s} {table} {after} {c} {p} {o} e w r = rw (e .filled, ← (e .column))
 
--- the rows of an opened column answer a value or 14
-pub own-rows : (s table after : List ℕ) (c : Column) (p : Spelling) → OpenedAs (opened s (length table / 4)) (OpenedColumn c p) table after
-    → (r : ℕ) → r < c .rows → (a : RowRead) → rowMeaning a ≡ rowAt c after s r → ((v : ℕ) × (rowMeaning a ≡ value v)) ⊎ (a ≡ NotRead (OutOfBounds r))
-own-rows s table after c p opened-as r h a e =
+-- the rows of a column that was opened, and then narrowed any number of times, answer a value or 14
+pub own-rows : (s table after : List ℕ) (c : Column) (p : Spelling) → OpenedAs (opened s (length table / 4)) (OpenedColumn c p) table after → (d : Column) → NarrowedFrom c d
+    → (r : ℕ) → r < d .window .rows → (a : RowRead) → rowMeaning a ≡ rowAt d after s r → ((v : ℕ) × (rowMeaning a ≡ value v)) ⊎ (a ≡ NotRead (OutOfBounds r))
+own-rows s table after c p opened-as d from r h a e =
     let o = opens s table after c p opened-as in
-    let known : r < o .0 .column .rows = rw (o .1 .column) h in
+    let f = subst (λ (x : Column). NarrowedFrom x d) (sym (o .1 .column)) from in
+    let same : rowAt d after s r ≡ rowAt d (filledBy (o .0) table) s r = ap (λ (l : List ℕ). rowAt d l s r) (o .1 .filled) in
     ⊎-elim
-    (λ v. inl (v .0, e ∙ reads (o .1) r ∙ v .1))
-    (λ f. inr (row-injective a (NotRead (OutOfBounds r)) (e ∙ reads (o .1) r ∙ f)))
-    (own-row s table (o .0) (o .1 .found) r known)
+    (λ v. inl (v .0, e ∙ same ∙ v .1))
+    (λ g. inr (row-injective a (NotRead (OutOfBounds r)) (e ∙ same ∙ g)))
+    (own-windows s table (o .0) (o .1 .found) f r h)
 
 -- where the test of fitting together fails, a row is refused 13
-unfit-row : (c : Column) (table s : List ℕ) (r : ℕ) → r < c .rows → fits c (length table / 4) (blockAt table (r / 512)) s r ≡ false → rowAt c table s r ≡ refusal 13 []
+unfit-row : (d : Column) (table s : List ℕ) (r : ℕ) → r < d .window .rows → fits d (length table / 4) (blockAt table (columnRow d r / 512)) s (columnRow d r) ≡ false → rowAt d table s r ≡ refusal 13 []
 unfolding rowIn
-unfit-row c table s r h e = rw (lt-ltb r (c .rows) h, e)
+unfit-row d table s r h e = rw (lt-ltb r (d .window .rows) h, e)
 
--- an opened column, read with the very bytes and table of its opening, fits together with them at every row: 13 is never met
-pub own-fits : (s table after : List ℕ) (c : Column) (p : Spelling) → OpenedAs (opened s (length table / 4)) (OpenedColumn c p) table after
-    → (r : ℕ) → r < c .rows → fits c (length after / 4) (blockAt after (r / 512)) s r ≡ true
-own-fits s table after c p opened-as r h = by-test (fits c (length after / 4) (blockAt after (r / 512)) s r) refl (own-row s table (o .0) (o .1 .found) r (rw (o .1 .column) h))
+-- such a column, read with the very bytes and table of its opening, fits together with them at every row: 13 is never met
+pub own-fits : (s table after : List ℕ) (c : Column) (p : Spelling) → OpenedAs (opened s (length table / 4)) (OpenedColumn c p) table after → (d : Column) → NarrowedFrom c d
+    → (r : ℕ) → r < d .window .rows → fits d (length after / 4) (blockAt after (columnRow d r / 512)) s (columnRow d r) ≡ true
+own-fits s table after c p opened-as d from r h =
+    by-test (fits d (length after / 4) (blockAt after (columnRow d r / 512)) s (columnRow d r)) refl
   where
     o : (l : Loaded) × Opens s table after c p l
     o = opens s table after c p opened-as
 
-    by-test : (t : Bool) → fits c (length after / 4) (blockAt after (r / 512)) s r ≡ t
-        → ((v : ℕ) × (answered (o .0) table s r ≡ value v)) ⊎ (answered (o .0) table s r ≡ refusal 14 (r ∷ [])) → t ≡ true
-    by-test true e answer = refl
-    by-test false e (inl v) = absurd (not-value (sym (unfit-row c after s r h e) ∙ reads (o .1) r ∙ v .1))
-    by-test false e (inr f) =
-        let two : _≡_ {A = Outcome ℕ} (refusal 13 []) (refusal 14 (r ∷ [])) = sym (unfit-row c after s r h e) ∙ reads (o .1) r ∙ f in
-        let z : _≡_ {A = ℕ} 13 14 = cc in
-        absurd (omega arith)
+    never : rowAt d after s r ≡ refusal 13 [] → ⊥
+    never e = never-unfit s table (o .0) (o .1 .found) (subst (λ (x : Column). NarrowedFrom x d) (sym (o .1 .column)) from) r (ap (λ (l : List ℕ). rowAt d l s r) (sym (o .1 .filled)) ∙ e)
+
+    by-test : (t : Bool) → fits d (length after / 4) (blockAt after (columnRow d r / 512)) s (columnRow d r) ≡ t → t ≡ true
+    by-test true e = refl
+    by-test false e = absurd (never (unfit-row d after s r h e))
 
 -- ---- demand 2
 
@@ -111,15 +113,32 @@ written-of (refusal number also) before after n r =
     let z : _≡_ {A = ℕ} 0 1 = cc in
     absurd (omega arith)
 
--- what the calls give back of a list, from bytes that were opened: a column of as many rows, spelled as short as can be, each value, and what a lookup in the list finds
+-- what the calls give back of a list through a column's window: as many rows, each value, and what a lookup in the list finds
+pub record Shows (vs s after : List ℕ) (c : Column) : Type 0 where
+  pub count : c .window .rows ≡ length vs
+  pub rows : (r : ℕ) → r < length vs → (b : RowRead) → rowMeaning b ≡ rowAt c after s r → b ≡ Value (getD vs r 0)
+  pub found : (low high first end : ℕ) (before list : List ℕ) (f : Found)
+      → FoundAs (lookedUp (rowAt c after s) (c .window .rows) (within low high) first end (length before)) f before list
+      → FoundAs (lookedUp (readsAs vs) (length vs) (within low high) first end (length before)) f before list
+
+-- from bytes that were opened: a column that is spelled as short as can be and gives back the list, and through any window in it that part of the list
 pub record Returned (vs s after : List ℕ) (a : Opened) : Type 0 where
   pub column : Column
   pub opens-to : a ≡ OpenedColumn column Shortest
-  pub count : column .rows ≡ length vs
-  pub rows : (r : ℕ) → r < length vs → (b : RowRead) → rowMeaning b ≡ rowAt column after s r → b ≡ Value (getD vs r 0)
-  pub found : (low high first end : ℕ) (before list : List ℕ) (f : Found)
-      → FoundAs (lookedUp (rowAt column after s) (column .rows) (within low high) first end (length before)) f before list
-      → FoundAs (lookedUp (readsAs vs) (length vs) (within low high) first end (length before)) f before list
+  pub all : Shows vs s after column
+  pub windows : (w : Window) → w .first + w .rows ≤ column .rows → Shows (shown w vs) s after (windowed column w)
+
+-- what an opened column gives back
+shows : (vs bytes table after : List ℕ) (o : Loaded) → after ≡ filledBy o table → GivesBack vs bytes table o → Shows vs bytes after (o .column)
+shows vs bytes table after o left back =
+    record {
+      count = back .count;
+      rows = λ (r : ℕ) (h : r < length vs) (b : RowRead) (f : rowMeaning b ≡ rowAt (o .column) after bytes r).
+          row-injective b (Value (getD vs r 0)) (f ∙ rw left (back .rows r h));
+      found = λ (low high first end : ℕ) (before list : List ℕ) (f : Found).
+          subst (λ (x : Outcome (List ℕ)). FoundAs x f before list)
+          (rw left (back .found low high first end (length before)));
+    }
 
 -- a written column that is opened
 returned : (vs cs bytes table after : List ℕ) (room : ℕ) → AllBelow (2 ^ 64) vs → written vs cs room ≡ value bytes → 4 * blockCount (length vs) ≤ length table
@@ -127,17 +146,12 @@ returned : (vs cs bytes table after : List ℕ) (room : ℕ) → AllBelow (2 ^ 6
 returned vs cs bytes table after room each e enough a opened-as =
     let g = demand2 .0 vs cs bytes table room each e enough in
     let o : Loaded = g .0 in
-    let back : GivesBack vs bytes table o = g .2 in
     let left : after ≡ filledBy o table = opened-as .table ∙ rw (g .1) in
     record {
       column = o .column;
       opens-to = opened-injective a (OpenedColumn (o .column) Shortest) (opened-as .answer ∙ rw (g .1, written-shortest vs cs bytes table room each e enough o (g .1)));
-      count = back .count;
-      rows = λ (r : ℕ) (h : r < length vs) (b : RowRead) (f : rowMeaning b ≡ rowAt (o .column) after bytes r).
-          row-injective b (Value (getD vs r 0)) (f ∙ rw left (back .rows r h));
-      found = λ (low high first end : ℕ) (before list : List ℕ) (f : Found).
-          subst (λ (x : Outcome (List ℕ)). FoundAs x f before list)
-          (rw left (back .found low high first end (length before)));
+      all = shows vs bytes table after o left (g .2);
+      windows = λ w inside. shows (shown w vs) bytes table after (inWindow o w) left (g .3 w inside);
     }
 
 -- a column at an output's front
@@ -179,11 +193,13 @@ calls-pass vs cs out written-out n each wrote table after enough sheet more know
 
 -- ---- demand 3
 
--- two byte strings that differ only inside the packed area, each opened by a call: one column, and answers that go by the row's own bits
+-- two byte strings that differ only inside the packed area, each opened by a call: one column, and answers in any window that go by the row's own bits
 pub record Told (s t after other-after : List ℕ) (c d : Column) (o : Loaded) : Type 0 where
   pub same : c ≡ d
-  pub agree : (r : ℕ) → r < c .rows → SameBits o s t r → (a b : RowRead) → rowMeaning a ≡ rowAt c after s r → rowMeaning b ≡ rowAt d other-after t r → a ≡ b
-  pub differ : (r : ℕ) → r < c .rows → (SameBits o s t r → ⊥) → (a b : RowRead) → rowMeaning a ≡ rowAt c after s r → rowMeaning b ≡ rowAt d other-after t r
+  pub agree : (w : Window) → w .first + w .rows ≤ c .rows → (r : ℕ) → r < w .rows → SameBits o s t (w .first + r)
+      → (a b : RowRead) → rowMeaning a ≡ rowAt (windowed c w) after s r → rowMeaning b ≡ rowAt (windowed d w) other-after t r → a ≡ b
+  pub differ : (w : Window) → w .first + w .rows ≤ c .rows → (r : ℕ) → r < w .rows → (SameBits o s t (w .first + r) → ⊥)
+      → (a b : RowRead) → rowMeaning a ≡ rowAt (windowed c w) after s r → rowMeaning b ≡ rowAt (windowed d w) other-after t r
       → (a ≡ b → ⊥) ⊎ ((a ≡ NotRead (OutOfBounds r)) × (b ≡ NotRead (OutOfBounds r)))
 
 -- answers that differ on paper differ
@@ -200,8 +216,8 @@ calls-tell s t table other after other-after c d q r o p e f alike =
     let told : RowsTell s t table other o p = demand3 .2 s t table other o p (e .found) (f .found) alike in
     record {
       same = sym (e .column) ∙ ap (λ (x : Loaded). x .column) (told .same) ∙ f .column;
-      agree = λ (r : ℕ) (h : r < c .rows) (bits : SameBits o s t r) (a b : RowRead) (x : rowMeaning a ≡ rowAt c after s r) (y : rowMeaning b ≡ rowAt d other-after t r).
-          row-injective a b (x ∙ reads e r ∙ told .agree r (rw (e .column) h) bits ∙ sym (y ∙ reads f r));
-      differ = λ (r : ℕ) (h : r < c .rows) (bits : SameBits o s t r → ⊥) (a b : RowRead) (x : rowMeaning a ≡ rowAt c after s r) (y : rowMeaning b ≡ rowAt d other-after t r).
-          differ-too r a b (answered o table s r) (answered p other t r) (x ∙ reads e r) (y ∙ reads f r) (told .differ r (rw (e .column) h) bits);
+      agree = λ w inside r h bits a b x y.
+          row-injective a b (x ∙ reads e w r ∙ told .agree w (rw (e .column) inside) r h bits ∙ sym (y ∙ reads f w r));
+      differ = λ w inside r h bits a b x y.
+          differ-too r a b (answered (inWindow o w) table s r) (answered (inWindow p w) other t r) (x ∙ reads e w r) (y ∙ reads f w r) (told .differ w (rw (e .column) inside) r h bits);
     }

@@ -1,12 +1,12 @@
 -- The demands of columns of signed numbers, dates, bools and floats, of the calls' own answers: from the contracts of `serialize_as`, `open`, `row` and `lookup`.
---     ReturnedAs, typed-return                       demand 2: what was written of a list of any kind opens, and reads and looks up as the list
+--     ShowsAs, ReturnedAs, typed-return              demand 2: what was written of a list of any kind opens, and reads and looks up as the list
 --     typed-pass                                     .. under either sheet
 --     signed-rows, date-rows, flag-rows, float-rows  .. by the answers that `signed`, `flag` and `float_bits` make of `row`'s
 --     looked-by, signed-looked, flag-looked, float-looked
 --                                                    `lookup` by the range of some values is a lookup of those, in any column
 --     typed-tell                                     demand 3: what two answers read as differs where the row's bits do
 -- Assumes nothing.
-use Prim.Native.Nat.{ℕ, _*_, _/_, _^_, _≤_, _<_}
+use Prim.Native.Nat.{ℕ, _+_, _*_, _/_, _^_, _≤_, _<_}
 use mathlib.Core.Path.{_≡_, sym, _∙_, subst}
 use mathlib.Core.Bool.{Bool}
 use mathlib.Core.List.{List}
@@ -30,6 +30,7 @@ use Rattle.format.specs.declared.SignedRead.{SignedRead}
 use Rattle.format.specs.declared.SignedRead.the-variants.{Value as SignedValue}
 use Rattle.format.specs.declared.Spelling.{Spelling}
 use Rattle.format.specs.declared.Spelling.the-variants.{Shortest}
+use Rattle.format.specs.declared.Window.{Window}
 use Rattle.format.specs.declared.Written.the-variants.{Length}
 use Rattle.format.specs.Outcome.{Outcome, Outcome.value}
 use Rattle.format.specs.Word.{AllBelow}
@@ -39,9 +40,10 @@ use Rattle.format.specs.Writing.{written}
 use Rattle.format.specs.Opening.{Loaded, opened}
 use Rattle.format.specs.Sheets.{openedUnder}
 use Rattle.format.specs.Reading.{rowAt}
+use Rattle.format.specs.Windows.{windowed, inWindow}
 use Rattle.format.specs.Lookup.{lookedUp, within}
 use Rattle.format.specs.Typed.{storedAs, readAs, Reading, readingOf, meant, lies, between, Covers, signedBits, signedOf, flagOf, floatOf, signeds, flags, floats, signedRange, flagRange, floatRange}
-use Rattle.format.specs.Demands.{filledBy, answered, readsAs, GivesBackAs, Alike, SameBits, TellAs}
+use Rattle.format.specs.Demands.{filledBy, answered, shown, readsAs, GivesBackAs, Alike, SameBits, TellAs}
 use Rattle.format.proofs.Answers.{opened-injective, signed-injective, flag-injective, float-injective}
 use Rattle.format.proofs.Writes.{written-as}
 use Rattle.format.proofs.TypedLookups.{row-words, covered-lookup, signed-covers, flag-covers, float-covers}
@@ -51,15 +53,33 @@ use Rattle.u64_based.proofs.Calls.{Opens, reads, written-of, front-of, 
 
 -- ---- demand 2
 
--- what the calls give back of a list of values of a kind: a column of as many rows, spelled as short as can be, each row's value, and by any range of stored numbers that covers some values what a lookup of those in the list itself finds
+-- what the calls give back of a list of values of a kind through a column's window: as many rows, each row's value, and by any range of stored numbers that covers some values what a lookup of those in the list itself finds
+pub record ShowsAs (kind : Kind) (xs s after : List ℕ) (c : Column) : Type 0 where
+  pub count : c .window .rows ≡ length xs
+  pub rows : (r : ℕ) → r < length xs → (b : RowRead) → rowMeaning b ≡ rowAt c after s r → readAs (readingOf kind .value) (rowMeaning b) ≡ value (meant kind (getD xs r 0))
+  pub found : (low high : readingOf kind .Value) (range : Range) → Covers (readingOf kind) low high range → (first end : ℕ) (before list : List ℕ) (f : Found)
+      → FoundAs (lookedUp (rowAt c after s) (c .window .rows) (within (range .low) (range .high)) first end (length before)) f before list
+      → FoundAs (lookedUp (readsAs xs) (length xs) (λ x. lies (readingOf kind) low high (meant kind x)) first end (length before)) f before list
+
+-- from bytes that were opened: a column that is spelled as short as can be and gives back the list, and through any window in it that part of the list
 pub record ReturnedAs (kind : Kind) (xs s after : List ℕ) (a : Opened) : Type 0 where
   pub column : Column
   pub opens-to : a ≡ OpenedColumn column Shortest
-  pub count : column .rows ≡ length xs
-  pub rows : (r : ℕ) → r < length xs → (b : RowRead) → rowMeaning b ≡ rowAt column after s r → readAs (readingOf kind .value) (rowMeaning b) ≡ value (meant kind (getD xs r 0))
-  pub found : (low high : readingOf kind .Value) (range : Range) → Covers (readingOf kind) low high range → (first end : ℕ) (before list : List ℕ) (f : Found)
-      → FoundAs (lookedUp (rowAt column after s) (column .rows) (within (range .low) (range .high)) first end (length before)) f before list
-      → FoundAs (lookedUp (readsAs xs) (length xs) (λ x. lies (readingOf kind) low high (meant kind x)) first end (length before)) f before list
+  pub all : ShowsAs kind xs s after column
+  pub windows : (w : Window) → w .first + w .rows ≤ column .rows → ShowsAs kind (shown w xs) s after (windowed column w)
+
+-- what an opened column gives back
+shows-as : (kind : Kind) (xs bytes table after : List ℕ) (o : Loaded) → after ≡ filledBy o table → GivesBackAs kind xs bytes table o → ShowsAs kind xs bytes after (o .column)
+shows-as kind xs bytes table after o left back =
+    record {
+      count = back .count;
+      rows = λ (r : ℕ) (h : r < length xs) (b : RowRead) (f : rowMeaning b ≡ rowAt (o .column) after bytes r).
+          rw (f, left) (back .rows r h);
+      found = λ (low high : readingOf kind .Value) (range : Range) (covers : Covers (readingOf kind) low high range) (first end : ℕ) (before list : List ℕ) (f : Found).
+          subst (λ (x : Outcome (List ℕ)). FoundAs x f before list)
+          (sym (covered-lookup (readingOf kind) low high range covers (rowAt (o .column) after bytes) (row-words (o .column) after bytes) (o .column .window .rows) first end (length before))
+          ∙ rw left (back .found low high first end (length before)));
+    }
 
 -- a written column that is opened
 returned-as : (kind : Kind) (xs cs bytes table after : List ℕ) (room : ℕ) → AllBelow (2 ^ 64) xs → written (storedAs kind xs) cs room ≡ value bytes → 4 * blockCount (length xs) ≤ length table
@@ -67,18 +87,12 @@ returned-as : (kind : Kind) (xs cs bytes table after : List ℕ) (room : ℕ) �
 returned-as kind xs cs bytes table after room each e enough a opened-as =
     let g = returns-as kind xs cs bytes table room each e enough in
     let o : Loaded = g .0 in
-    let back : GivesBackAs kind xs bytes table o = g .2 in
     let left : after ≡ filledBy o table = opened-as .table ∙ rw (g .1) in
     record {
       column = o .column;
       opens-to = opened-injective a (OpenedColumn (o .column) Shortest) (opened-as .answer ∙ rw (g .1, shortest-as kind xs cs bytes table room each e enough o (g .1)));
-      count = back .count;
-      rows = λ (r : ℕ) (h : r < length xs) (b : RowRead) (f : rowMeaning b ≡ rowAt (o .column) after bytes r).
-          rw (f, left) (back .rows r h);
-      found = λ (low high : readingOf kind .Value) (range : Range) (covers : Covers (readingOf kind) low high range) (first end : ℕ) (before list : List ℕ) (f : Found).
-          subst (λ (x : Outcome (List ℕ)). FoundAs x f before list)
-          (sym (covered-lookup (readingOf kind) low high range covers (rowAt (o .column) after bytes) (row-words (o .column) after bytes) (o .column .rows) first end (length before))
-          ∙ rw left (back .found low high first end (length before)));
+      all = shows-as kind xs bytes table after o left (g .2);
+      windows = λ w inside. shows-as kind (shown w xs) bytes table after (inWindow o w) left (g .3 w inside);
     }
 
 -- demand 2, of the calls: what `serialize_as` wrote, opened with any table that has room, gives back the list
@@ -108,20 +122,20 @@ typed-pass kind xs cs out written-out n each wrote table after enough sheet more
 
 -- ---- .. by the typed answers
 
-module _ (xs s after : List ℕ) (a : Opened) where
-  pub signed-rows : (g : ReturnedAs I64 xs s after a) (r : ℕ) → r < length xs → (b : RowRead) → rowMeaning b ≡ rowAt (g .column) after s r
+module _ (xs s after : List ℕ) (c : Column) where
+  pub signed-rows : ShowsAs I64 xs s after c → (r : ℕ) → r < length xs → (b : RowRead) → rowMeaning b ≡ rowAt c after s r
       → (t : SignedRead) → signedMeaning t ≡ readAs signedOf (rowMeaning b) → t ≡ SignedValue (signedBits (getD xs r 0))
   signed-rows g r h b e t f = signed-injective t (SignedValue (signedBits (getD xs r 0))) (f ∙ g .rows r h b e)
 
-  pub date-rows : (g : ReturnedAs Date xs s after a) (r : ℕ) → r < length xs → (b : RowRead) → rowMeaning b ≡ rowAt (g .column) after s r
+  pub date-rows : ShowsAs Date xs s after c → (r : ℕ) → r < length xs → (b : RowRead) → rowMeaning b ≡ rowAt c after s r
       → (t : SignedRead) → signedMeaning t ≡ readAs signedOf (rowMeaning b) → t ≡ SignedValue (signedBits (getD xs r 0))
   date-rows g r h b e t f = signed-injective t (SignedValue (signedBits (getD xs r 0))) (f ∙ g .rows r h b e)
 
-  pub flag-rows : (g : ReturnedAs Flag xs s after a) (r : ℕ) → r < length xs → (b : RowRead) → rowMeaning b ≡ rowAt (g .column) after s r
+  pub flag-rows : ShowsAs Flag xs s after c → (r : ℕ) → r < length xs → (b : RowRead) → rowMeaning b ≡ rowAt c after s r
       → (t : FlagRead) → flagMeaning t ≡ readAs flagOf (rowMeaning b) → t ≡ FlagValue (ltb 0 (getD xs r 0))
   flag-rows g r h b e t f = flag-injective t (FlagValue (ltb 0 (getD xs r 0))) (f ∙ g .rows r h b e)
 
-  pub float-rows : (g : ReturnedAs F64 xs s after a) (r : ℕ) → r < length xs → (b : RowRead) → rowMeaning b ≡ rowAt (g .column) after s r
+  pub float-rows : ShowsAs F64 xs s after c → (r : ℕ) → r < length xs → (b : RowRead) → rowMeaning b ≡ rowAt c after s r
       → (t : FloatRead) → floatMeaning t ≡ readAs floatOf (rowMeaning b) → t ≡ FloatValue (getD xs r 0)
   float-rows g r h b e t f = float-injective t (FloatValue (getD xs r 0)) (f ∙ g .rows r h b e)
 
@@ -129,20 +143,20 @@ module _ (xs s after : List ℕ) (a : Opened) where
 
 -- what `lookup` answers by a range of stored numbers that covers some values
 pub looked-by : (R : Reading) (low high : R .Value) (range : Range) → Covers R low high range → (c : Column) (table bytes : List ℕ) (first end : ℕ) (found list : List ℕ) (f : Found)
-    → FoundAs (lookedUp (rowAt c table bytes) (c .rows) (within (range .low) (range .high)) first end (length found)) f found list
-    → FoundAs (lookedUp (rowAt c table bytes) (c .rows) (between R low high) first end (length found)) f found list
+    → FoundAs (lookedUp (rowAt c table bytes) (c .window .rows) (within (range .low) (range .high)) first end (length found)) f found list
+    → FoundAs (lookedUp (rowAt c table bytes) (c .window .rows) (between R low high) first end (length found)) f found list
 looked-by R low high range covers c table bytes first end found list f =
     subst (λ (x : Outcome (List ℕ)). FoundAs x f found list)
-    (sym (covered-lookup R low high range covers (rowAt c table bytes) (row-words c table bytes) (c .rows) first end (length found)))
+    (sym (covered-lookup R low high range covers (rowAt c table bytes) (row-words c table bytes) (c .window .rows) first end (length found)))
 
 module _ (c : Column) (table bytes : List ℕ) (first end : ℕ) (found list : List ℕ) (f : Found) where
   -- looking up a range
   abbrev FoundIn : Range → Type 0
-  FoundIn range = FoundAs (lookedUp (rowAt c table bytes) (c .rows) (within (range .low) (range .high)) first end (length found)) f found list
+  FoundIn range = FoundAs (lookedUp (rowAt c table bytes) (c .window .rows) (within (range .low) (range .high)) first end (length found)) f found list
 
   -- looking up the values from low to high
   abbrev FoundBy : (R : Reading) → (low high : R .Value) → Type 0
-  FoundBy R low high = FoundAs (lookedUp (rowAt c table bytes) (c .rows) (between R low high) first end (length found)) f found list
+  FoundBy R low high = FoundAs (lookedUp (rowAt c table bytes) (c .window .rows) (between R low high) first end (length found)) f found list
 
   -- of signed numbers and dates, in the range of an i64
   pub signed-looked : (low high : ℤ) → mag low < 2 ^ 63 → mag high < 2 ^ 63 → FoundIn (signedRange low high) → FoundBy signeds low high
@@ -156,11 +170,14 @@ module _ (c : Column) (table bytes : List ℕ) (first end : ℕ) (found list : L
 
 -- ---- demand 3
 
--- of two byte strings that differ only inside the packed area, each opened by a call, a row whose bits differ
+-- of two byte strings that differ only inside the packed area, each opened by a call, a row of a window whose bits differ
 pub typed-tell : (s t table other after other-after : List ℕ) (c d : Column) (l m : Spelling) (o p : Loaded) → Opens s table after c l o → Opens t other other-after d m p → Alike s t o
-    → (r : ℕ) → r < c .rows → (SameBits o s t r → ⊥) → (a b : RowRead) → rowMeaning a ≡ rowAt c after s r → rowMeaning b ≡ rowAt d other-after t r
+    → (w : Window) → w .first + w .rows ≤ c .rows → (r : ℕ) → r < w .rows → (SameBits o s t (w .first + r) → ⊥)
+    → (a b : RowRead) → rowMeaning a ≡ rowAt (windowed c w) after s r → rowMeaning b ≡ rowAt (windowed d w) other-after t r
     → TellAs r (rowMeaning a) (rowMeaning b)
-typed-tell s t table other after other-after c d l m o p e f alike r h bits a b x y =
-    let told : TellAs r (answered o table s r) (answered p other t r) = tell-typed s t table other o p (e .found) (f .found) alike r (rw (e .column) h) bits in
-    subst (λ (u : Outcome ℕ). TellAs r u (rowMeaning b)) (sym (x ∙ reads e r))
-    (subst (λ (u : Outcome ℕ). TellAs r (answered o table s r) u) (sym (y ∙ reads f r)) told)
+typed-tell s t table other after other-after c d l m o p e f alike w inside r h bits a b x y =
+    let x′ = answered (inWindow o w) table s r in
+    let y′ = answered (inWindow p w) other t r in
+    let told : TellAs r x′ y′ = tell-typed s t table other o p (e .found) (f .found) alike w (rw (e .column) inside) r h bits in
+    subst (λ (u : Outcome ℕ). TellAs r u (rowMeaning b)) (sym (x ∙ reads e w r))
+    (subst (λ (u : Outcome ℕ). TellAs r x′ u) (sym (y ∙ reads f w r)) told)

@@ -3,29 +3,32 @@
 pub mod opening;
 
 ghost use mathlib.Core.Path.{_≡_};
-ghost use Prim.Native.Nat.{_/_};
+ghost use Prim.Native.Nat.{_-_, _/_};
 ghost use lib.ListN.{length};
-ghost use Rattle.format.specs.Refusals.{statedMeaning, openedMeaning, rowMeaning};
+ghost use Rattle.format.specs.Refusals.{statedMeaning, openedMeaning, narrowedMeaning, rowMeaning};
 ghost use Rattle.format.specs.Stats.{stated};
 ghost use Rattle.format.specs.Writing.{written};
 ghost use Rattle.format.specs.Opening.{columnIn, opened};
 ghost use Rattle.format.specs.Sheets.{openedUnder};
 ghost use Rattle.format.specs.Lookup.{lookedUp, within};
-ghost use Rattle.format.specs.Reading.{rowAt};
+ghost use Rattle.format.specs.Reading.{columnRow, rowAt};
 ghost use Rattle.format.specs.Runs.{decoded};
 ghost use Rattle.format.specs.Typed.{storedAs};
+ghost use Rattle.format.specs.Windows.{narrowing};
 ghost use Rattle.format.specs.Calls.{SerializedAs, OpenedAs, FoundAs, RunAs};
 ghost use Rattle.reading.specs.Chunks.{chunkSize};
 ghost use Rattle.reading.specs.Stretch.{StretchAs};
 use format::Column;
-use format::ColumnRow;
 use format::Found;
 use format::Kind;
+use format::Narrowed;
 use format::Opened;
 use format::Refusal;
 use format::RowRead;
 use format::RunRead;
 use format::Stated;
+use format::Window;
+use format::WindowRow;
 use format::Written;
 use reading::taking::Stretch;
 use stats::HeadRead;
@@ -132,16 +135,44 @@ pub fn open(bytes: &[u8], table: &mut [u64]) -> Opened
     open_under(1, bytes, table)
 }
 
-// The value of a row of an opened column, with its table and its bytes.
-pub fn row(column: Column, table: &[u64], bytes: &[u8], row: ColumnRow) -> RowRead
+// Narrows a column's window to `count` rows from its row `first` on. A refusal returns the column as it was.
+pub fn narrow(column: Column, first: u32, count: u32) -> Narrowed
+    ensures { λ r. ⌜ narrowedMeaning r ≡ narrowing column first count ⌝ }
+{
+    if (column.window.rows as u64) < first as u64 + count as u64 {
+        return Narrowed::Refused(Refusal::NoSuchRow, column);
+    }
+    if !reading::reader::window_fits(column) {
+        return Narrowed::Refused(Refusal::Unfit, column);
+    }
+    let window = Window {
+        first: column.window.first + first,
+        rows: count,
+    };
+    let codec = column.codec;
+    Narrowed::Column(Column {
+        minimum: column.minimum,
+        gcd: column.gcd,
+        count: column.count,
+        rows: column.rows,
+        start: column.start,
+        size: column.size,
+        window,
+        codec,
+    })
+}
+
+// The value of a row of an opened column's window, with its table and its bytes.
+pub fn row(column: Column, table: &[u64], bytes: &[u8], row: WindowRow) -> RowRead
     ensures { λ r. ⌜ rowMeaning r ≡ rowAt column (now (table .entry)) (now (bytes .entry)) (row .0) ⌝ }
 {
-    let k = blockwise_linear::reader::split(row).block;
+    let at = reading::reader::column_row(column.window.first, row);
+    let k = blockwise_linear::reader::split(at).block;
     let block = blockwise_linear::reader::block_at(table, k);
     reading::reader::row_in(column, table.len() / 4, block, bytes, row)
 }
 
-// The rows from `first` to `end`, cut to the column's rows, whose value lies from `low` to `high`, ascending into the first entries of `found`. The
+// The rows from `first` to `end`, cut to the window's rows, whose value lies from `low` to `high`, ascending into the first entries of `found`. The
 // first row that reading refuses decides, so the rows are counted before any is stored: one loop over the chunks serves both passes.
 pub fn lookup(
     column: Column,
@@ -153,10 +184,10 @@ pub fn lookup(
     end: u32,
     found: &mut [u32],
 ) -> Found
-    ensures { λ r. ⌜ FoundAs (lookedUp (rowAt column (now (table .entry)) (now (bytes .entry))) (column .rows) (within low high) first end (length (now (found .entry)))) r (now (found .entry)) (now (found .exit)) ⌝ }
+    ensures { λ r. ⌜ FoundAs (lookedUp (rowAt column (now (table .entry)) (now (bytes .entry))) (column .window .rows) (within low high) first end (length (now (found .entry)))) r (now (found .entry)) (now (found .exit)) ⌝ }
 {
     let blocks = table.len() / 4;
-    let mut w = reading::finding::begin(column.rows, first, end);
+    let mut w = reading::finding::begin(column.window, first, end);
     while w.going {
         let block = blockwise_linear::reader::block_at(table, reading::walks::block_of(w));
         w = reading::finding::step(column, blocks, block, bytes, low, high, w, found);
@@ -164,13 +195,13 @@ pub fn lookup(
     reading::finding::answer(w)
 }
 
-// The values of the column's rows from `first` on, as many as the lent list has entries, into that list. A run that leaves the rows is refused before all else; then the
+// The values of the window's rows from `first` on, as many as the lent list has entries, into that list. A run that leaves the rows is refused before all else; then the
 // first row that reading refuses decides. A refusal leaves the list as it was.
 pub fn run(column: Column, table: &[u64], bytes: &[u8], first: u32, out: &mut [u64]) -> RunRead
-    ensures { λ r. ⌜ RunAs (decoded (rowAt column (now (table .entry)) (now (bytes .entry))) (column .rows) first (length (now (out .entry)))) r (now (out .entry)) (now (out .exit)) ⌝ }
+    ensures { λ r. ⌜ RunAs (decoded (rowAt column (now (table .entry)) (now (bytes .entry))) (column .window .rows) first (length (now (out .entry)))) r (now (out .entry)) (now (out .exit)) ⌝ }
 {
     let blocks = table.len() / 4;
-    let mut w = reading::runs::begin(column.rows, first, out.len());
+    let mut w = reading::runs::begin(column.window, first, out.len());
     while w.going {
         let block = blockwise_linear::reader::block_at(table, reading::walks::block_of(w));
         w = reading::runs::step(column, blocks, block, bytes, w, out);
@@ -178,8 +209,8 @@ pub fn run(column: Column, table: &[u64], bytes: &[u8], first: u32, out: &mut [u
     reading::runs::answer(w)
 }
 
-// The values of the rows from `first` to the end of its block, or of the column, up to the first that reading refuses, into the front of the lent list; how many, and that row's
-// refusal if there is one. A row that is not below the column's has none.
+// The values of the window's rows from `first` to the end of its block, or of the window, up to the first that reading refuses, into the front of the lent list; how many, and that row's
+// refusal if there is one. A row that is not below the window's has none.
 pub fn chunk(
     column: Column,
     table: &[u64],
@@ -187,9 +218,10 @@ pub fn chunk(
     first: u32,
     out: &mut [u64; 512],
 ) -> Stretch
-    ensures { λ r. ⌜ StretchAs (rowAt column (now (table .entry)) (now (bytes .entry))) first (chunkSize first (column .rows)) r (now (out .entry)) (now (out .exit)) ⌝ }
+    ensures { λ r. ⌜ StretchAs (rowAt column (now (table .entry)) (now (bytes .entry))) first (chunkSize (columnRow column first) (column .window .rows - first)) r (now (out .entry)) (now (out .exit)) ⌝ }
 {
-    let k = blockwise_linear::reader::split(ColumnRow(first)).block;
+    let at = reading::reader::column_row(column.window.first, WindowRow(first));
+    let k = blockwise_linear::reader::split(at).block;
     let block = blockwise_linear::reader::block_at(table, k);
     reading::taking::take(column, table.len() / 4, block, bytes, first, out)
 }

@@ -29,12 +29,14 @@ unsafe extern "C" {
         bytes_len: usize,
         table: *mut u64,
         table_len: usize,
-        column: *mut [u64; 10],
+        column: *mut [u64; 12],
         refusal: *mut [u64; 2],
     ) -> u64;
 
+    fn hulemartob_narrow(column: *mut [u64; 12], first: u32, count: u32, refusal: *mut [u64; 2]);
+
     fn hulemartob_row(
-        column: *const [u64; 10],
+        column: *const [u64; 12],
         table: *const u64,
         table_len: usize,
         bytes: *const u8,
@@ -44,7 +46,7 @@ unsafe extern "C" {
     ) -> u64;
 
     fn hulemartob_lookup(
-        column: *const [u64; 10],
+        column: *const [u64; 12],
         table: *const u64,
         table_len: usize,
         bytes: *const u8,
@@ -59,7 +61,7 @@ unsafe extern "C" {
     ) -> usize;
 
     fn hulemartob_run(
-        column: *const [u64; 10],
+        column: *const [u64; 12],
         table: *const u64,
         table_len: usize,
         bytes: *const u8,
@@ -120,10 +122,10 @@ pub(crate) fn serialize(values: &[u64], codecs: &[u8], out: &mut [u8]) -> Result
     answer(refusal, length)
 }
 
-/// The ten numbers of a column opened under a sheet, and the offset of its first number that is spelled in more bytes than it need be; `table`
+/// The twelve numbers of a column opened under a sheet, and the offset of its first number that is spelled in more bytes than it need be; `table`
 /// has its blocks.
-pub(crate) fn open_under(sheet: u32, bytes: &[u8], table: &mut [u64]) -> Result<([u64; 10], Option<u64>), Refusal> {
-    let (mut column, mut refusal) = ([0; 10], [0; 2]);
+pub(crate) fn open_under(sheet: u32, bytes: &[u8], table: &mut [u64]) -> Result<([u64; 12], Option<u64>), Refusal> {
+    let (mut column, mut refusal) = ([0; 12], [0; 2]);
     // SAFETY: see the top of this file.
     let longer = unsafe {
         hulemartob_open_under(sheet, bytes.as_ptr(), bytes.len(), table.as_mut_ptr(), table.len(), &mut column, &mut refusal)
@@ -131,9 +133,17 @@ pub(crate) fn open_under(sheet: u32, bytes: &[u8], table: &mut [u64]) -> Result<
     answer(refusal, (column, (longer != u64::MAX).then_some(longer)))
 }
 
+/// The twelve numbers of a column whose window is narrowed to `count` rows from its row `first` on.
+pub(crate) fn narrow(column: &[u64; 12], first: u32, count: u32) -> Result<[u64; 12], Refusal> {
+    let (mut narrowed, mut refusal) = (*column, [0; 2]);
+    // SAFETY: see the top of this file.
+    unsafe { hulemartob_narrow(&mut narrowed, first, count, &mut refusal) };
+    answer(refusal, narrowed)
+}
+
 /// The value of a row.
 #[inline]
-pub(crate) fn row(column: &[u64; 10], table: &[u64], bytes: &[u8], row: u32) -> Result<u64, Refusal> {
+pub(crate) fn row(column: &[u64; 12], table: &[u64], bytes: &[u8], row: u32) -> Result<u64, Refusal> {
     let mut refusal = [0; 2];
     // SAFETY: see the top of this file.
     let value = unsafe { hulemartob_row(column, table.as_ptr(), table.len(), bytes.as_ptr(), bytes.len(), row, &mut refusal) };
@@ -142,7 +152,7 @@ pub(crate) fn row(column: &[u64; 10], table: &[u64], bytes: &[u8], row: u32) -> 
 
 /// How many rows of `rows` have a value from `low` to `high`; `found` has them.
 pub(crate) fn lookup(
-    column: &[u64; 10],
+    column: &[u64; 12],
     table: &[u64],
     bytes: &[u8],
     (low, high): (u64, u64),
@@ -171,7 +181,7 @@ pub(crate) fn lookup(
 }
 
 /// How many values now fill `out`.
-pub(crate) fn run(column: &[u64; 10], table: &[u64], bytes: &[u8], first: u32, out: &mut [u64]) -> Result<usize, Refusal> {
+pub(crate) fn run(column: &[u64; 12], table: &[u64], bytes: &[u8], first: u32, out: &mut [u64]) -> Result<usize, Refusal> {
     let mut refusal = [0; 2];
     // SAFETY: see the top of this file.
     let many = unsafe {

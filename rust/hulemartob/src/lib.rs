@@ -36,6 +36,7 @@ mod typed;
 
 use std::iter::FusedIterator;
 use std::ops::{Range, RangeInclusive};
+use std::sync::Arc;
 
 pub use refusal::Refusal;
 pub use typed::{
@@ -120,13 +121,13 @@ pub fn open(bytes: &[u8]) -> Result<Column<'_>, Refusal> {
     Column::open(bytes)
 }
 
-/// An opened column: its bytes, its ten numbers, and its block table.
+/// An opened column, seen through a window: its bytes, its twelve numbers, and its block table, which its windows share. Opening shows all rows.
 #[derive(Clone, Debug, PartialEq, Eq)]
 pub struct Column<'a> {
     bytes: &'a [u8],
-    numbers: [u64; 10],
+    numbers: [u64; 12],
     longer: Option<u64>,
-    table: Vec<u64>,
+    table: Arc<[u64]>,
 }
 
 impl<'a> Column<'a> {
@@ -160,18 +161,36 @@ impl<'a> Column<'a> {
             }
             answer => answer?,
         };
-        Ok(Column { bytes, numbers, longer, table })
+        Ok(Column { bytes, numbers, longer, table: table.into() })
     }
 
     /// A column of any numbers and any table: codec, minimum, gcd, count, rows, start and size of the packed area; slope, intercept and
-    /// width of a Linear column, else 0. Four numbers a block in the table: slope, intercept, width, start. What does not belong together
+    /// width of a Linear column, else 0; first row and row count of its window. Four numbers a block in the table: slope, intercept, width, start. What does not belong together
     /// is refused 13 as it is read.
-    pub fn from_parts(bytes: &'a [u8], numbers: [u64; 10], table: Vec<u64>) -> Column<'a> {
-        Column { bytes, numbers, longer: None, table }
+    pub fn from_parts(bytes: &'a [u8], numbers: [u64; 12], table: Vec<u64>) -> Column<'a> {
+        Column { bytes, numbers, longer: None, table: table.into() }
     }
 
-    /// The ten numbers, as [`Column::from_parts`] takes them.
-    pub fn numbers(&self) -> &[u64; 10] {
+    /// A window in this column's window: its rows are those of a range, and count from its start. Refused 12 if the range ends behind the rows, and
+    /// 13 if this column was made of parts and its own window leaves it. A range that ends before it starts has no rows.
+    ///
+    /// ```
+    /// use hulemartob::{Codec, Column, serialize};
+    ///
+    /// let bytes = serialize(&[10, 30, 20, 50], &Codec::ALL)?;
+    /// let page = Column::open(&bytes)?.window(1..4)?;
+    /// assert_eq!(page.rows(), 3);
+    /// assert_eq!(page.row(0)?, 30);
+    /// assert_eq!(page.window(1..2)?.row(0)?, 20);
+    /// # Ok::<(), hulemartob::Refusal>(())
+    /// ```
+    pub fn window(&self, rows: Range<u32>) -> Result<Column<'a>, Refusal> {
+        let numbers = ffi::narrow(&self.numbers, rows.start, rows.end.saturating_sub(rows.start))?;
+        Ok(Column { bytes: self.bytes, numbers, longer: self.longer, table: Arc::clone(&self.table) })
+    }
+
+    /// The twelve numbers, as [`Column::from_parts`] takes them.
+    pub fn numbers(&self) -> &[u64; 12] {
         &self.numbers
     }
 
@@ -211,12 +230,22 @@ impl<'a> Column<'a> {
         self.numbers[2]
     }
 
-    /// How many rows the column has. It fits in every column that was opened.
+    /// How many rows are seen: those of the window. It fits in every column that was opened.
     pub fn rows(&self) -> u32 {
+        self.numbers[11] as u32
+    }
+
+    /// The column's row that row 0 is: where the window starts. It fits in every column that was opened.
+    pub fn first_row(&self) -> u32 {
+        self.numbers[10] as u32
+    }
+
+    /// How many rows the whole column has, whatever the window. It fits in every column that was opened.
+    pub fn column_rows(&self) -> u32 {
         self.numbers[4] as u32
     }
 
-    /// The value of a row. Refused 12 to 14; 13 only for a column made of parts.
+    /// The value of a row of the window. Refused 12 to 14; 13 only for a column made of parts.
     #[inline]
     pub fn row(&self, row: u32) -> Result<u64, Refusal> {
         ffi::row(&self.numbers, &self.table, self.bytes, row)
@@ -233,7 +262,7 @@ impl<'a> Column<'a> {
         Values { column: self, next: 0, first: 0, chunk: Vec::new(), whole: true }
     }
 
-    /// The rows of a run whose value lies in a range, ascending. The run's end is cut to the column's rows. The first row of the run that
+    /// The rows of a run whose value lies in a range, ascending. The run's end is cut to the window's rows. The first row of the run that
     /// [`Column::row`] refuses decides, whatever the range is. Refused 13 and 14.
     pub fn lookup(&self, values: RangeInclusive<u64>, rows: Range<u32>) -> Result<Vec<u32>, Refusal> {
         let run = rows.end.min(self.rows()).saturating_sub(rows.start) as usize;
@@ -268,9 +297,10 @@ pub struct Values<'c> {
 }
 
 impl Values<'_> {
-    /// Decodes the rows from the next one on up to a multiple of 512: none of them lies in another block. Where one is refused, each is asked for by itself.
+    /// Decodes the rows from the next one on up to a multiple of 512 of the column's: none of them lies in another block. Where one is refused, each is
+    /// asked for by itself.
     fn decode(&mut self) {
-        let size = (512 - self.next % 512).min(self.column.rows() - self.next);
+        let size = (512 - self.column.first_row().wrapping_add(self.next) % 512).min(self.column.rows() - self.next);
         self.first = self.next;
         self.chunk.resize(size as usize, 0);
         self.whole = self.column.run_into(self.first, &mut self.chunk).is_ok();

@@ -66,15 +66,15 @@ fn worked_examples() {
 #[test]
 fn opened_numbers() {
     let column = Column::open(&BITPACKED).unwrap();
-    assert_eq!(column.numbers(), &[0, 10, 10, 2, 3, 5, 1, 0, 0, 0]);
+    assert_eq!(column.numbers(), &[0, 10, 10, 2, 3, 5, 1, 0, 0, 0, 0, 3]);
     assert_eq!((column.codec(), column.table()), (Some(Codec::Bitpacked), &[][..]));
     assert_eq!((column.min_value(), column.max_value(), column.gcd(), column.rows()), (10, 30, 10, 3));
     let column = Column::open(&BLOCKWISE).unwrap();
-    assert_eq!(column.numbers(), &[2, 10, 10, 2, 3, 5, 1, 0, 0, 0]);
+    assert_eq!(column.numbers(), &[2, 10, 10, 2, 3, 5, 1, 0, 0, 0, 0, 3]);
     assert_eq!(column.table(), [1 << 31, 0, 2, 0]);
     let values: Vec<u64> = (0..512).map(|i| 5 + 2 * i).collect();
     let bytes = serialize(&values, &[Codec::Linear]).unwrap();
-    assert_eq!(Column::open(&bytes).unwrap().numbers(), &[1, 5, 2, 511, 512, bytes.len() as u64, 0, 2 << 32, 5, 0]);
+    assert_eq!(Column::open(&bytes).unwrap().numbers(), &[1, 5, 2, 511, 512, bytes.len() as u64, 0, 2 << 32, 5, 0, 0, 512]);
 }
 
 #[test]
@@ -214,7 +214,7 @@ fn sheets_are_kept_apart() {
 fn parts_that_do_not_fit() {
     let column = Column::open(&BITPACKED).unwrap();
     assert_eq!(column.row(3), refused(12, 0));
-    for (place, number) in [(0, 3), (1, u64::MAX - 19), (2, 0), (4, 1 << 32), (5, 6), (5, u64::MAX), (6, 2), (6, 0)] {
+    for (place, number) in [(0, 3), (1, u64::MAX - 19), (2, 0), (4, 1 << 32), (10, 1 << 32), (11, 1 << 32), (5, 6), (5, u64::MAX), (6, 2), (6, 0)] {
         let mut numbers = *column.numbers();
         numbers[place] = number;
         let made = Column::from_parts(&BITPACKED, numbers, vec![]);
@@ -225,7 +225,7 @@ fn parts_that_do_not_fit() {
     for table in [vec![], vec![1 << 31, 0, 2], vec![1 << 31, 0, 57, 0], vec![1 << 31, 0, 2, 1], vec![1 << 31, 0, 2, u64::MAX]] {
         assert_eq!(Column::from_parts(&BLOCKWISE, *column.numbers(), table).row(0), refused(13, 0));
     }
-    let linear = [1, 0, 1, 9, 1, 0, 0, 0, 0, 256];
+    let linear = [1, 0, 1, 9, 1, 0, 0, 0, 0, 256, 0, 1];
     assert_eq!(Column::from_parts(&[], linear, vec![]).row(0), refused(13, 0));
 }
 

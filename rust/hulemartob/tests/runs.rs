@@ -23,7 +23,7 @@ fn found(column: &Column, first: u32, values: &[u64]) {
 
 /// A made-up Bitpacked column of bytes, of which those above the count are out of bounds.
 fn bytewise(bytes: &[u8], count: u64, rows: u64, size: u64) -> Column<'_> {
-    Column::from_parts(bytes, [0, 0, 1, count, rows, 0, size, 0, 0, 0], vec![])
+    Column::from_parts(bytes, [0, 0, 1, count, rows, 0, size, 0, 0, 0, 0, rows], vec![])
 }
 
 fn noise(rows: u64, bits: u32) -> Vec<u64> {

@@ -1,4 +1,4 @@
--- `column_c::hulemartob_lookup` meets its contract: the ten numbers are no column, or the rows are that column's.
+-- `column_c::hulemartob_lookup` meets its contract: the twelve numbers are no column, or the rows are that column's.
 -- Assumes nothing.
 use mathlib.Core.Path.{refl, sym, ap, _∙_}
 use denote.Ref.{now}
@@ -19,7 +19,7 @@ use Rattle.column_c.proofs.hulemartob_lookup.Tie as tie
 abbrev looks : tie.Start → Column → Outcome (List ℕ)
 looks c col =
     let a = c .args in
-    lookedUp (rowAt col (now (a .table)) (now (a .bytes))) (col .rows) (within (a .low) (a .high)) (a .first) (a .end) (length (now (a .found)))
+    lookedUp (rowAt col (now (a .table)) (now (a .bytes))) (col .window .rows) (within (a .low) (a .high)) (a .first) (a .end) (length (now (a .found)))
 
 column-from-requires : tie.Need-column-from-requires
 column-from-requires c κs = search needs

@@ -1,4 +1,4 @@
--- `column_c::hulemartob_row` meets its contract: the ten numbers are no column, or the row is that column's.
+-- `column_c::hulemartob_row` meets its contract: the twelve numbers are no column, or the row is that column's.
 -- Assumes nothing.
 use mathlib.Core.Path.{refl, sym, ap, _∙_}
 use denote.Ref.{now}

@@ -13,7 +13,7 @@ use Rattle.compare.proofs.write_rows.Tie as tie
 
 abbrev Inv-loop : tie.InvT-loop
 Inv-loop left ltable lbytes right rtable rbytes out₀ rows from₀ count₀ out from count =
-    (rows ≡ max (left .rows) (right .rows)) × (from ≤ rows) × (count ≤ from) × (pairMax ≤ length out) × (length out ≡ length out₀)
+    (rows ≡ max (left .window .rows) (right .window .rows)) × (from ≤ rows) × (count ≤ from) × (pairMax ≤ length out) × (length out ≡ length out₀)
 
 abbrev μ-loop : tie.MeasureT-loop
 μ-loop left ltable lbytes right rtable rbytes out₀ rows from₀ count₀ out from count = rows - from
@@ -21,7 +21,7 @@ abbrev μ-loop : tie.MeasureT-loop
 -- after the call: what its answer gives
 took-here : (c : tie.After-fill-lines Inv-loop μ-loop) →
     let a = c .before .before .before .before .before .before .before .before .before .before .args in
-    Paired (max (a .left .rows) (a .right .rows)) (c .before .before .before .before .before .loop .from) (c .fill-lines .result)
+    Paired (max (a .left .window .rows) (a .right .window .rows)) (c .before .before .before .before .before .loop .from) (c .fill-lines .result)
 took-here c =
     let a = c .before .before .before .before .before .before .before .before .before .before .args in
     paired (rowAt (a .left) (now (a .ltable)) (now (a .lbytes))) (rowAt (a .right) (now (a .rtable)) (now (a .rbytes))) _ (length (c .before .before .before .before .before .loop .out)) _ _ (c .fill-lines .ensures .0) (omega arith) (omega arith)

@@ -18,7 +18,7 @@ use Rattle.comparison.proofs.fill_lines.Tie as tie
 
 abbrev Inv-loop : tie.InvT-loop
 Inv-loop left ltable lbytes right rtable rbytes from out₀ rows lvalues₀ rvalues₀ lheld₀ rheld₀ r₀ done₀ out lvalues rvalues lheld rheld r done =
-    Pairing (rowAt left ltable lbytes) (rowAt right rtable rbytes) (max (left .rows) (right .rows)) from out₀ out r (done .lines) (done .bytes) × (rows ≡ max (left .rows) (right .rows))
+    Pairing (rowAt left ltable lbytes) (rowAt right rtable rbytes) (max (left .window .rows) (right .window .rows)) from out₀ out r (done .lines) (done .bytes) × (rows ≡ max (left .window .rows) (right .window .rows))
     × Holds (rowAt left ltable lbytes) lheld lvalues
     × Holds (rowAt right rtable rbytes) rheld rvalues
 
@@ -93,7 +93,7 @@ same-length c = c .before .loop .inv .0 .text .kept
 -- the loop is left where no row is left, or no room
 none-left : (c : tie.Left-loop Inv-loop μ-loop) →
     let a = c .before .before .before .before .before .before .before .before .before .before .args in
-    pairRows (rowAt (a .left) (now (a .ltable)) (now (a .lbytes))) (rowAt (a .right) (now (a .rtable)) (now (a .rbytes))) (max (a .left .rows) (a .right .rows))
+    pairRows (rowAt (a .left) (now (a .ltable)) (now (a .lbytes))) (rowAt (a .right) (now (a .rtable)) (now (a .rbytes))) (max (a .left .window .rows) (a .right .window .rows))
     (length (a .out .now) - c .before .loop .done .bytes) (c .before .loop .r) ≡ 0
 none-left c = ⊎-elim (λ w. chunk-none _ _ _ _ _ (omega (arith, w .left))) (λ w. chunk-full _ _ _ _ _ (omega (arith, w .2 .taken))) (c .loop-test .came)
 

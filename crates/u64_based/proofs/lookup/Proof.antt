@@ -13,7 +13,7 @@ use Rattle.u64_based.proofs.lookup.Statement.{statement}
 use Rattle.u64_based.proofs.lookup.Tie as tie
 
 abbrev Inv-loop : tie.InvT-loop
-Inv-loop column table bytes low high first end found₀ blocks w₀ found w = Walking (rowsOf (within low high)) (rowAt column table bytes) (column .rows) (lookedUp (rowAt column table bytes) (column .rows) (within low high) first end (length found₀)) found₀ w found
+Inv-loop column table bytes low high first end found₀ blocks w₀ found w = Walking (rowsOf (within low high)) (rowAt column table bytes) (column .window) (lookedUp (rowAt column table bytes) (column .window .rows) (within low high) first end (length found₀)) found₀ w found
 
 abbrev μ-loop : tie.MeasureT-loop
 μ-loop column table bytes low high first end found₀ blocks w₀ found w = left w
@@ -34,7 +34,7 @@ step-requires : tie.Need-step-requires Inv-loop μ-loop
 step-requires c κs =
     let k = c .before .before .before in
     let f = is-passing (k .before .loop .inv) (k .loop-test .taken) in
-    (f .going, f .inside)
+    (f .going, f .based, f .inside)
 
 loop-less : tie.Need-loop-less Inv-loop μ-loop
 loop-less c = c .before .before .step .ensures .1

@@ -12,7 +12,7 @@ use Rattle.u64_based.proofs.run.Statement.{statement}
 use Rattle.u64_based.proofs.run.Tie as tie
 
 abbrev Inv-loop : tie.InvT-loop
-Inv-loop column table bytes first out₀ blocks w₀ out w = Walking allValues (rowAt column table bytes) (column .rows) (decoded (rowAt column table bytes) (column .rows) first (length out₀)) out₀ w out
+Inv-loop column table bytes first out₀ blocks w₀ out w = Walking allValues (rowAt column table bytes) (column .window) (decoded (rowAt column table bytes) (column .window .rows) first (length out₀)) out₀ w out
 
 abbrev μ-loop : tie.MeasureT-loop
 μ-loop column table bytes first out₀ blocks w₀ out w = left w
@@ -34,7 +34,7 @@ step-requires c κs =
     let k = c .before .before .before in
     let f = is-passing (k .before .loop .inv) (k .loop-test .taken) in
     let p = passing-run f in
-    (f .going, f .inside, p .0, p .1)
+    (f .going, f .based, f .inside, p .0, p .1)
 
 loop-less : tie.Need-loop-less Inv-loop μ-loop
 loop-less c = c .before .before .step .ensures .1

@@ -183,6 +183,34 @@ fn compare_lookups(tally: &mut Tally, random: &mut Random, column: &Column, thei
     }
 }
 
+/// A window in a window: its run and its lookups are the Rust's at the column's rows, where none is refused; and refused rows count from its start.
+fn compare_windows(tally: &mut Tally, random: &mut Random, column: &Column, theirs: &rust::Opened, values: &[u64]) {
+    let rows = column.rows().min(READ);
+    let bytes = column.bytes();
+    let outer = random.below(rows as usize + 1) as u32;
+    let inner = random.below((rows - outer) as usize + 1) as u32;
+    let many = random.below((rows - outer - inner) as usize + 1);
+    let first = outer + inner;
+    let window = column.window(outer..rows).and_then(|page| page.window(inner..inner + many as u32));
+    let Ok(window) = window else {
+        return tally.differ("window", None, bytes.len(), || format!("{} {many} rows from {first}: {window:?}", hex(bytes)));
+    };
+    let mut out = vec![0; many];
+    let ours = window.run_into(0, &mut out).map(|_| &out);
+    let here: Result<Vec<u64>, Refusal> = (first..first + many as u32)
+        .map(|row| column.row(row).map_err(|why| Refusal { value: if why.number == 14 { why.value - u64::from(first) } else { why.value }, ..why }))
+        .collect();
+    let (low, high) = lists::range(random, values);
+    let found = window.lookup(low..=high, 0..u32::MAX);
+    let moved = column.lookup(low..=high, first..first + many as u32).map(|rows| rows.into_iter().map(|row| row - first).collect::<Vec<_>>());
+    let same = ours.is_err() || theirs.run(first, many).as_ref() == Ok(&out);
+    if ours == here.as_ref().map_err(|&why| why) && same && (found == moved || (found.is_err() && moved.is_err())) && window.row(many as u32).is_err() {
+        tally.alike("windows in windows", 1);
+    } else {
+        tally.differ("window", None, bytes.len(), || format!("{} {many} rows from {first}: {here:?}, {found:?}", hex(bytes)));
+    }
+}
+
 fn compare_column(tally: &mut Tally, random: &mut Random, bytes: &[u8], values: &[u64], whose: &str) {
     match (Column::open(bytes), rust::open(bytes)) {
         (Ok(column), Ok(theirs)) => {
@@ -193,6 +221,7 @@ fn compare_column(tally: &mut Tally, random: &mut Random, bytes: &[u8], values: 
             compare_rows(tally, &column, &theirs);
             compare_runs(tally, random, &column, &theirs);
             compare_lookups(tally, random, &column, &theirs, values);
+            compare_windows(tally, random, &column, &theirs, values);
         }
         (Err(refusal), Err(failed)) => {
             let how = if failed == rust::Failed::Panic { "a panic" } else { "an error" };

@@ -1,4 +1,4 @@
--- `ask_lookups` is safe and ends: each turn but the last makes one lookup or run more.
+-- `ask_lookups` is safe and ends: each turn but the last makes one lookup, run or narrowing more.
 -- Assumes nothing.
 use Prim.Native.Nat.{_-_}
 use borrow.Author.Needs.{needs}
@@ -6,10 +6,10 @@ use Rattle.bench_cases.proofs.reading.ask_lookups.Statement.{statement}
 use Rattle.bench_cases.proofs.reading.ask_lookups.Tie as tie
 
 abbrev Inv-loop : tie.InvT-loop
-Inv-loop runs column table bytes file from count asked₀ at₀ asked at = Unit {0}
+Inv-loop kind column table bytes file from count asked₀ at₀ asked at = Unit {0}
 
 abbrev μ-loop : tie.MeasureT-loop
-μ-loop runs column table bytes file from count asked₀ at₀ asked at = count - asked
+μ-loop kind column table bytes file from count asked₀ at₀ asked at = count - asked
 
 loop-holds : tie.Need-loop-holds Inv-loop μ-loop
 loop-holds c = search needs

@@ -7,20 +7,20 @@ use borrow.Author.Needs.{needs}
 use Rattle.reading.proofs.runs.step.Statement.{statement}
 use Rattle.reading.proofs.runs.step.Tie as tie
 
-chunk-size-requires : tie.Need-chunk-size-requires
-chunk-size-requires c κs = search needs
+chunk-of-requires : tie.Need-chunk-of-requires
+chunk-of-requires c κs = search needs
 
 array-borrow-prefix-buffer : tie.Need-array-borrow-prefix-buffer
 array-borrow-prefix-buffer c = search needs
 
 slice-aggregate-step-through : tie.Need-slice-aggregate-step-through
-slice-aggregate-step-through c = sym (front-length _ _ refl (omega (arith, c .before .chunk-size .ensures)))
+slice-aggregate-step-through c = sym (front-length _ _ refl (omega (arith, c .before .chunk-of .ensures)))
 
 step-through-requires : tie.Need-step-through-requires
 step-through-requires c κs =
     let k = c .before .before in
     let s = k .before .before .before in
-    (s .pre .0, s .pre .1, front-length _ _ refl (omega (arith, k .chunk-size .ensures)) ∙ k .chunk-size .ensures, s .pre .2, s .pre .3)
+    (s .pre .0, s .pre .1, s .pre .2, front-length _ _ refl (omega (arith, k .chunk-of .ensures)) ∙ k .chunk-of .ensures, s .pre .3, s .pre .4)
 
 same-length : tie.Need-same-length
 same-length c = search needs
@@ -32,7 +32,7 @@ pub step-spec : {M : Type 1} → statement M
 step-spec =
     tie.close
     (tie.spec
-    chunk-size-requires
+    chunk-of-requires
     array-borrow-prefix-buffer
     slice-aggregate-step-through
     step-through-requires

@@ -19,8 +19,8 @@ add-total c = search needs
 returns : tie.Need-returns
 returns c =
     let p = c .before .before .before .before .pre in (
-      (λ k read rows o before list values f run n room. record { phase = goes-on k read f _ (p .1) values run n (c .if1 .taken) _ }),
-      falls-on _ (p .0) _ (chunk-some _ _ _ (p .0 .to) (p .1)),
+      (λ k read window o before list values f run n room. record { phase = goes-on k read f _ (p .1) values run n (c .if1 .taken) _ }),
+      falls-on _ (p .0) _ (chunk-some _ _ _ _ (p .0 .to) (p .1)),
     )
 
 over-requires : tie.Need-over-requires
@@ -30,7 +30,7 @@ returns-2 : tie.Need-returns-2
 returns-2 c =
     let e = c .before .before in
     let p = e .before .before .before .before .pre in (
-      (λ k read rows o before list values f run n room. ended (c .over .ensures .0) (c .over .ensures .1) (all-stored k read f _ (p .1) values run n (e .if1 .left) (c .before .if2 .taken))),
+      (λ k read window o before list values f run n room. ended (c .over .ensures .0) (c .over .ensures .1) (all-stored k read f _ (p .1) values run n (e .if1 .left) (c .before .if2 .taken))),
       falls-over _ (p .0) (c .over .result) (c .over .ensures .0),
     )
 
@@ -41,7 +41,7 @@ returns-3 : tie.Need-returns-3
 returns-3 c =
     let e = c .before .before .before in
     let p = e .before .before .before .before .pre in (
-      (λ k read rows o before list values f run n room. ended (c .over2 .ensures .0) (c .over2 .ensures .1) (too-short k read f _ (p .1) values run n (e .if1 .left) (c .before .before .if2 .left) (rw room at (c .before .if3 .taken)))),
+      (λ k read window o before list values f run n room. ended (c .over2 .ensures .0) (c .over2 .ensures .1) (too-short k read f _ (p .1) values run n (e .if1 .left) (c .before .before .if2 .left) (rw room at (c .before .if3 .taken)))),
       falls-over _ (p .0) (c .over2 .result) (c .over2 .ensures .0),
     )
 
@@ -52,7 +52,7 @@ returns-4 : tie.Need-returns-4
 returns-4 c =
     let e = c .before .before .before .before in
     let p = e .before .before .before .before .pre in (
-      (λ k read rows o before list values f run n room. ended (c .over3 .ensures .0) (c .over3 .ensures .1) (none-found k read f _ (p .1) values run n (e .if1 .left) (c .before .before .before .if2 .left) (c .before .if4 .taken))),
+      (λ k read window o before list values f run n room. ended (c .over3 .ensures .0) (c .over3 .ensures .1) (none-found k read f _ (p .1) values run n (e .if1 .left) (c .before .before .before .if2 .left) (c .before .if4 .taken))),
       falls-over _ (p .0) (c .over3 .result) (c .over3 .ensures .0),
     )
 
@@ -60,7 +60,7 @@ returns-5 : tie.Need-returns-5
 returns-5 c =
     let e = c .before .before .before in
     let p = e .before .before .before .before .pre in (
-      (λ k read rows o before list values f run n room. record { phase = turns-over k read f _ (p .1) values run n (e .if1 .left) (c .before .before .if2 .left) (rw room at (c .before .if3 .left)) _ }),
+      (λ k read window o before list values f run n room. record { phase = turns-over k read f _ (p .1) values run n (e .if1 .left) (c .before .before .if2 .left) (rw room at (c .before .if3 .left)) _ }),
       falls-looking _ (p .0) (c .before .before .if2 .left) _ (omega (arith, p .0 .to)),
     )
 
