@@ -6,12 +6,12 @@
 use Prim.Native.Nat.{ℕ, zero, suc, _+_, _-_, _*_, _^_}
 use mathlib.Core.Path.{_≡_, refl, sym, ap, _∙_, subst}
 use mathlib.Core.Bool.{Bool, true, false}
-use mathlib.Core.Logic.{inl, inr, ⊎-elim}
+use mathlib.Core.Logic.{_⊎_, inl, inr, ⊎-elim}
 use mathlib.Core.List.{List, [], _∷_}
 use native.Mathlib.Omega.{arith}
 use lib.Dec.{leb, ltb, eqb}
 use lib.ListN.{length, take, drop, getD}
-use borrow.Author.Tests.{leb-true, le-leb}
+use borrow.Author.Tests.{leb-true, le-leb, ne-eqb}
 use Rattle.format.specs.declared.Codec.{Codec}
 use Rattle.format.specs.declared.Codec.the-variants.{Bitpacked, Linear, Blockwise}
 use Rattle.format.specs.declared.Column.{Column}
@@ -31,7 +31,9 @@ use Rattle.format.specs.Viewing.{viewBlockwise, viewBody, viewed, viewedUnder}
 use Rattle.format.proofs.Outcomes.{not-value, value-same, by-step, by-demand}
 use Rattle.format.proofs.Openings.{bitpackedOf, linearOf, blockwiseOf}
 use Rattle.format.proofs.Sheets.{by-unit}
-use Rattle.view.specs.Held.{forView}
+use Rattle.sheets.specs.Faults.{AllWithin}
+use Rattle.u64_based.proofs.Opens.{opened-within}
+use Rattle.view.specs.Held.{unlessBlockwise, forView}
 
 -- ---- refusals that are not 11
 
@@ -77,6 +79,17 @@ other-head s =
     other-demand (ltb (m .value + c .value * g .value) (2 ^ 64)) 8 [] _ refl
     (other-step (readVarint s (c .next)) _ (other-varint s (c .next)) (λ (r : Field).
     other-demand (ltb (r .value) (2 ^ 32)) 8 [] _ refl tt))))))
+
+-- ---- the code's cases
+
+pub for-refused : {a : Outcome (Column × Spelling)} {also : List ℕ} (n : ℕ) → a ≡ refusal n also → n ≡ 11 → refusal 20 [] ≡ forView a
+for-refused n e eleven = rw (e, eleven)
+
+pub for-other : {a : Outcome (Column × Spelling)} {also : List ℕ} (n : ℕ) → a ≡ refusal n also → (n ≡ 11 → ⊥) → refusal n also ≡ forView a
+for-other n e other = rw (e, ne-eqb n 11 other)
+
+pub for-column : {a : Outcome (Column × Spelling)} {k : Codec} (c : Column) (p : Spelling) → a ≡ value (c, p) → c .codec ≡ k → unlessBlockwise k (c, p) ≡ forView a
+for-column c p e is = rw (e, is)
 
 -- ---- by the codec
 
@@ -144,16 +157,20 @@ unfolding viewed viewBody viewBlockwise opened openBody openBlockwise
 plain-opens [] = inr (λ room. refl)
 plain-opens (c ∷ s) = go (leb c 2) (readHead (c ∷ s))
   where
-    footer : (h : Head) (t u : Bool) (next : ℕ → Outcome Loaded)
-        → ((demand t 10 [] >> (demand u 10 [] >> refusal 20 [])) ≡ refusal 20 []) ⊎ ((room : ℕ) → (demand t 10 [] >> (demand u 10 [] >> refusal 20 [])) ≡ (demand t 10 [] >> (demand u 10 [] >> next room)))
-    footer h false u next = inr (λ room. refl)
-    footer h true false next = inr (λ room. refl)
-    footer h true true next = inl refl
+    footer : (t u : Bool) (next : ℕ → Outcome Loaded)
+        → (_≡_ {A = Outcome Loaded} (demand t 10 [] >> (demand u 10 [] >> refusal 20 [])) (refusal 20 [])) ⊎ ((room : ℕ) → (demand t 10 [] >> (demand u 10 [] >> refusal 20 [])) ≡ (demand t 10 [] >> (demand u 10 [] >> next room)))
+    footer false u next = inr (λ room. refl)
+    footer true false next = inr (λ room. refl)
+    footer true true next = inl refl
 
     body : (k : ℕ) (h : Head) → (viewBody k (c ∷ s) h ≡ refusal 20 []) ⊎ ((room : ℕ) → viewBody k (c ∷ s) h ≡ openBody k (c ∷ s) h room)
     body zero h = inr (λ room. refl)
     body (suc zero) h = inr (λ room. refl)
-    body (suc (suc k)) h = footer h _ _ _
+    body (suc (suc k)) h =
+        let end = length (c ∷ s) - 4 in
+        let long = bytesNum (drop end (c ∷ s)) in
+        footer (leb (h .next + 4) (length (c ∷ s))) (leb (h .next + long) end) (λ (room : ℕ). demand (leb (blockCount (h .rows)) room) 11 (blockCount (h .rows) ∷ [])
+        >> (readBlocks (blockCount (h .rows)) (take end (c ∷ s)) (end - long) 0 (h .rows) >>= (λ (b : Table). demand (leb (h .next + b .area) (end - long)) 10 [] >> value (blockwiseOf h b))))
 
     go : (t : Bool) (o : Outcome Head)
         → ((demand t 5 [] >> (o >>= (λ (h : Head). viewBody c (c ∷ s) h))) ≡ refusal 20 [])
@@ -209,6 +226,13 @@ accepted (suc (suc zero)) s v o e =
     by-unit (strict s (l .column) (l .spelling)) (value l) e λ met same.
     is ∙ same
 accepted (suc (suc (suc sheet))) s v o e = absurd (not-value e)
+
+-- its area lies behind its code byte and ends within the bytes
+pub viewed-within : (s : List ℕ) (a : Outcome (Column × Spelling)) → a ≡ columnIn (viewed s) → AllWithin a s
+viewed-within s a is = subst (λ (x : Outcome (Column × Spelling)). AllWithin x s) (sym is) (⊎-elim
+    (λ (twenty : viewed s ≡ refusal 20 []). subst (λ (o : Outcome Loaded). AllWithin (columnIn o) s) (sym twenty) tt)
+    (λ (same : (room : ℕ) → viewed s ≡ opened s room). opened-within s 0 (columnIn (viewed s)) (ap columnIn (same 0)))
+    (plain-opens s))
 
 -- every row of it answers as it does with whatever table
 pub view-rows : (sheet : ℕ) (s : List ℕ) (o : Loaded) → viewedUnder sheet s ≡ value o → (table : List ℕ) (r : ℕ) → rowAt (o .column) [] s r ≡ rowAt (o .column) table s r
