@@ -1,12 +1,12 @@
 -- What the parts of sheet 2 mean, and what they ask for.
 -- Assumes nothing.
-use Prim.Native.Nat.{ℕ, _+_, _≤_, _<_}
+use Prim.Native.Nat.{ℕ, zero, suc, _+_, _≤_, _<_}
 use mathlib.Core.Option.{Option, none, some}
-use mathlib.Core.List.{List}
+use mathlib.Core.List.{List, []}
 use lib.ListN.{length}
 use Rattle.format.specs.declared.Column.{Column}
 use Rattle.format.specs.declared.Spelling.{Spelling}
-use Rattle.format.specs.Outcome.{Outcome, Outcome.value, _>>_}
+use Rattle.format.specs.Outcome.{Outcome, Outcome.value, Outcome.refusal, _>>=_, _>>_}
 use Rattle.format.specs.Sheets.{Ending, clean, strict}
 use Rattle.sheets.specs.declared.Fault.{Fault}
 use Rattle.sheets.specs.declared.Fault.the-variants.{Nowhere, At}
@@ -32,3 +32,15 @@ strictAs s col p = strict s col p >> value (col, p)
 pub record Within (col : Column) (s : List ℕ) : Type 0 where
   pub behind : 0 < col .start
   pub area : col .start + col .size ≤ length s
+
+-- the same of a column in an opening's answer
+abbrev pub AllWithin : Outcome (Column × Spelling) → (s : List ℕ) → Type 0
+AllWithin (value x) s = Within (x .0) s
+AllWithin (refusal number also) s = Unit {0}
+
+-- an opening's answer under a sheet
+unfoldable pub underAs : (sheet : ℕ) (s : List ℕ) → Outcome (Column × Spelling) → Outcome (Column × Spelling)
+underAs zero s a = refusal 18 []
+underAs (suc zero) s a = a
+underAs (suc (suc zero)) s a = a >>= (λ (x : Column × Spelling). strictAs s (x .0) (x .1))
+underAs (suc (suc (suc sheet))) s a = refusal 18 []

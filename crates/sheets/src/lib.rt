@@ -5,7 +5,7 @@ ghost use Prim.Native.Nat.{_*_, _%_, _<_};
 ghost use lib.ListN.{length};
 ghost use Rattle.format.specs.Refusals.{openedMeaning};
 ghost use Rattle.format.specs.Sheets.{lower, longer, between, overfull, offending};
-ghost use Rattle.sheets.specs.Faults.{faultMeaning, endingOf, heldAs, strictAs, Within};
+ghost use Rattle.sheets.specs.Faults.{faultMeaning, endingOf, heldAs, strictAs, underAs, Within, AllWithin};
 use blockwise_linear::reader::LastRead;
 use format::Codec;
 use format::Column;
@@ -149,4 +149,25 @@ pub fn strict(column: Column, spelling: Spelling, bytes: &[u8]) -> Opened
             LastRead::Refused(r) => Opened::Refused(r),
         },
     }
+}
+
+// Internal: asks that a column in the answer has its area within the bytes. What an opening answered, under the sheet that the caller names: sheet 1 takes it as it is, sheet 2 asks what it asks
+// besides, and there is no other.
+pub fn under(sheet: u32, answer: Opened, bytes: &[u8]) -> Opened
+    requires { ⌜ AllWithin (openedMeaning answer) (now bytes) ⌝ }
+    ensures { λ r. ⌜ openedMeaning r ≡ underAs sheet (now (bytes .entry)) (openedMeaning answer) ⌝ }
+{
+    if sheet == 0 {
+        return Opened::Refused(Refusal::UnknownSheet);
+    }
+    if 2 < sheet {
+        return Opened::Refused(Refusal::UnknownSheet);
+    }
+    if sheet == 1 {
+        return answer;
+    }
+    let Opened::Column(column, spelling) = answer else {
+        return answer;
+    };
+    strict(column, spelling, bytes)
 }

@@ -3,8 +3,7 @@
 --     body-blockwise                                    the body of a code that is neither 0 nor 1
 --     Tabled, opened-tabled                             the blocks of the rows that an answer has in the table were checked, fit the room, and are the rule's numbers
 --     under-finds, under-table                          a column that a sheet accepts is what opening finds, and so is its table
---     opened-within, under-none, under-unknown, under-one, is-two, under-refused, under-strict
---                                                       opening under a sheet, in the order of the code
+--     opened-within                                     an opened column's area ends within the bytes
 -- Assumes nothing.
 use Prim.Native.Nat.{ℕ, zero, suc, _/_, _≤_, _<_}
 use mathlib.Core.Path.{_≡_, refl, sym, ap, _∙_, subst}
@@ -20,13 +19,13 @@ use Rattle.format.specs.declared.Spelling.the-variants.{Shortest}
 use Rattle.format.specs.Outcome.{Outcome, Outcome.value, Outcome.refusal, _>>=_, _>>_, stored}
 use Rattle.format.specs.Stats.{readHead}
 use Rattle.format.specs.Opening.{Loaded, Table, readBlocks, openBlockwise, openBody, opened, columnIn, tableIn}
-use Rattle.format.specs.Sheets.{strict, underSheet, openedUnder}
+use Rattle.format.specs.Sheets.{underSheet, openedUnder}
 use Rattle.format.proofs.Outcomes.{not-value, value-same, by-step}
 use Rattle.format.proofs.Laid.{opened-laid}
 use Rattle.format.proofs.Sheets.{under-two}
 use Rattle.format.proofs.Openings.{OpensBitpacked, OpensLinear, OpensBlockwise, by-opening}
 use Rattle.blockwise_linear.specs.Reader.{firstCursor, blocksFrom, numbersIn, Fillable}
-use Rattle.sheets.specs.Faults.{Within, strictAs}
+use Rattle.sheets.specs.Faults.{AllWithin}
 use Rattle.u64_based.specs.Opening.{tabled, tableFor, Finds}
 
 -- ---- the code byte
@@ -110,57 +109,11 @@ under-table sheet s room answer is = rw is (go (openedUnder sheet s room) refl)
     go (refusal n also) found = refl
 
 -- an opened column's area lies behind its code byte and ends within the bytes
-pub opened-within : (s : List ℕ) (room : ℕ) (c : Column) (p : Spelling) → columnIn (opened s room) ≡ value (c, p) → Within c s
-opened-within s room c p e =
-    by-step (opened s room) (λ (o : Loaded). value (o .column, o .spelling)) e λ o is same.
-    let laid = opened-laid s room o is in
-    subst (λ (x : Column). Within x s) (ap (λ (a : Column × Spelling). a .0) (value-same same)) (record { behind = omega (arith, laid .start); area = laid .area })
-
--- no sheet but 1 and 2
-pub under-none : (sheet : ℕ) (s : List ℕ) (room : ℕ) → sheet ≡ 0 → refusal 18 [] ≡ columnIn (openedUnder sheet s room)
-unfolding underSheet
-under-none sheet s room e = rw e
-
-pub under-unknown : (sheet : ℕ) (s : List ℕ) (room : ℕ) → 2 < sheet → refusal 18 [] ≡ columnIn (openedUnder sheet s room)
-unfolding underSheet
-under-unknown zero s room h = refl
-under-unknown (suc zero) s room h = absurd (omega arith)
-under-unknown (suc (suc zero)) s room h = absurd (omega arith)
-under-unknown (suc (suc (suc sheet))) s room h = refl
-
--- sheet 1
-pub under-one : (sheet : ℕ) (s : List ℕ) (room : ℕ) {a : Outcome (Column × Spelling)} → sheet ≡ 1 → a ≡ columnIn (opened s room) → a ≡ columnIn (openedUnder sheet s room)
-unfolding underSheet
-under-one sheet s room e is = is ∙ rw e
-
--- the sheet that is left
-pub is-two : (sheet : ℕ) → (sheet ≡ 0 → ⊥) → sheet ≤ 2 → (sheet ≡ 1 → ⊥) → sheet ≡ 2
-is-two zero more h other = absurd (more refl)
-is-two (suc zero) more h other = absurd (other refl)
-is-two (suc (suc zero)) more h other = refl
-is-two (suc (suc (suc sheet))) more h other = absurd (omega arith)
-
--- sheet 2, from opening's refusal, or from the column and the spelling that it found
-pub under-refused : (sheet : ℕ) (s : List ℕ) (room : ℕ) {n : ℕ} {also : List ℕ} {a : Outcome (Column × Spelling)} → sheet ≡ 2 → a ≡ columnIn (opened s room) → a ≡ refusal n also
-    → a ≡ columnIn (openedUnder sheet s room)
-unfolding underSheet
-under-refused sheet s room {n} {also} two is e = e ∙ rw two (go (opened s room) (sym is ∙ e))
+pub opened-within : (s : List ℕ) (room : ℕ) (a : Outcome (Column × Spelling)) → a ≡ columnIn (opened s room) → AllWithin a s
+opened-within s room a is = subst (λ (x : Outcome (Column × Spelling)). AllWithin x s) (sym is) (go (opened s room) refl)
   where
-    go : (o : Outcome Loaded) → columnIn o ≡ refusal n also → refusal n also ≡ columnIn (o >>= (λ (l : Loaded). strict s (l .column) (l .spelling) >> value l))
-    go (value l) f = absurd (not-value (sym f))
-    go (refusal m more) f = sym f
-
-pub under-strict : (sheet : ℕ) (s : List ℕ) (room : ℕ) (c : Column) (p : Spelling) {a : Outcome (Column × Spelling)} → sheet ≡ 2 → columnIn (opened s room) ≡ value (c, p) → a ≡ strictAs s c p
-    → a ≡ columnIn (openedUnder sheet s room)
-unfolding underSheet
-under-strict sheet s room c p two e is =
-    is
-    ∙ rw two
-    (by-step (opened s room) (λ (o : Loaded). value (o .column, o .spelling)) e λ o found same.
-    rw found
-    (ap (λ (x : Column × Spelling). strictAs s (x .0) (x .1)) (sym (value-same same))
-    ∙ sym (behind o (strict s (o .column) (o .spelling)))))
-  where
-    behind : (o : Loaded) (u : Outcome (Unit {0})) → columnIn (u >> value o) ≡ (u >> value (o .column, o .spelling))
-    behind o (value t) = refl
-    behind o (refusal n also) = refl
+    go : (o : Outcome Loaded) → opened s room ≡ o → AllWithin (columnIn o) s
+    go (value o) e =
+        let laid = opened-laid s room o e in
+        record { behind = omega (arith, laid .start); area = laid .area }
+    go (refusal number also) e = tt

@@ -101,20 +101,8 @@ pub fn open_plain(bytes: &[u8], room: usize) -> Opened
 pub fn open_plain_under(sheet: u32, bytes: &[u8], room: usize) -> Opened
     ensures { λ r. ⌜ openedMeaning r ≡ columnIn (openedUnder sheet (now (bytes .entry)) room) ⌝ }
 {
-    if sheet == 0 {
-        return Opened::Refused(Refusal::UnknownSheet);
-    }
-    if 2 < sheet {
-        return Opened::Refused(Refusal::UnknownSheet);
-    }
     let answer = open_plain(bytes, room);
-    if sheet == 1 {
-        return answer;
-    }
-    let Opened::Column(column, spelling) = answer else {
-        return answer;
-    };
-    sheets::strict(column, spelling, bytes)
+    sheets::under(sheet, answer, bytes)
 }
 
 // Opens a column under an acceptance sheet, says how its numbers are spelled, and puts the blocks of a Blockwise one into the lent table, four

@@ -1,70 +1,33 @@
--- `u64_based::open_plain_under` meets its contract: the sheet's number decides first, then opening, then sheet 2.
+-- `u64_based::open_plain_under` meets its contract: opening, under the sheet.
 -- Assumes nothing.
-use mathlib.Core.Path.{_≡_, ap}
+use mathlib.Core.Path.{_≡_, ap, _∙_}
 use denote.Ref.{now}
 use borrow.Author.Needs.{needs}
-use Rattle.format.specs.Refusals.{openedMeaning}
-use Rattle.format.proofs.Outcomes.{told}
-use Rattle.u64_based.proofs.Opens.{opened-within, under-none, under-unknown, under-one, is-two, under-refused, under-strict}
+use Rattle.format.specs.Opening.{opened}
+use Rattle.sheets.specs.Faults.{underAs}
+use Rattle.sheets.proofs.SheetNumbers.{under-columns}
+use Rattle.u64_based.proofs.Opens.{opened-within}
 use Rattle.u64_based.proofs.open_plain_under.Statement.{statement}
 use Rattle.u64_based.proofs.open_plain_under.Tie as tie
-
--- behind the tests of its number, the sheet is the second
-two : (e : tie.Else3) → e .before .before .before .before .before .args .sheet ≡ 2
-two e = is-two _ (e .before .before .before .if1 .left) (e .before .before .if2 .left) (e .if3 .left)
-
-returns : tie.Need-returns
-returns c =
-    let a = c .before .before .args in
-    under-none (a .sheet) (now (a .bytes)) (a .room) (c .if1 .taken)
-
-returns-2 : tie.Need-returns-2
-returns-2 c =
-    let a = c .before .before .before .args in
-    under-unknown (a .sheet) (now (a .bytes)) (a .room) (c .if2 .taken)
 
 open-plain-requires : tie.Need-open-plain-requires
 open-plain-requires c κs = search needs
 
-returns-3 : tie.Need-returns-3
-returns-3 c =
-    let a = c .before .before .before .before .before .args in
-    under-one (a .sheet) (now (a .bytes)) (a .room) (c .if3 .taken) (c .before .open-plain .ensures)
+under-requires : tie.Need-under-requires
+under-requires c κs =
+    let a = c .before .before .args in
+    opened-within (now (a .bytes)) (a .room) _ (c .open-plain .ensures)
 
-enum-known-answer : tie.Need-enum-known-answer
-enum-known-answer c = search needs
-
-enum-told : tie.Need-enum-told
-enum-told c = search needs
-
-returns-4 : tie.Need-returns-4
-returns-4 c =
-    let e = c .before .before in
-    let a = e .before .before .before .before .before .args in
-    under-refused (a .sheet) (now (a .bytes)) (a .room) (two e) (e .before .open-plain .ensures) (ap openedMeaning (c .enum-told .given .1))
-
-strict-requires : tie.Need-strict-requires
-strict-requires c κs =
-    let e = c .before .before .before in
-    let a = e .before .before .before .before .before .args in
-    opened-within (now (a .bytes)) (a .room) _ _ (told openedMeaning (e .before .open-plain .ensures) (c .before .answer .given .1))
-
-returns-5 : tie.Need-returns-5
-returns-5 c =
-    let e = c .before .before .before .before in
-    let a = e .before .before .before .before .before .args in
-    under-strict (a .sheet) (now (a .bytes)) (a .room) _ _ (two e) (told openedMeaning (e .before .open-plain .ensures) (c .before .before .answer .given .1)) (c .strict .ensures)
+returns : tie.Need-returns
+returns c =
+    let o = c .before in
+    let a = o .before .before .args in
+    c .under .ensures ∙ ap (underAs (a .sheet) (now (a .bytes))) (o .open-plain .ensures) ∙ under-columns (a .sheet) (now (a .bytes)) (opened (now (a .bytes)) (a .room))
 
 pub open-plain-under-spec : {M : Type 1} → statement M
 open-plain-under-spec =
     tie.close
     (tie.spec
-    returns
-    returns-2
     open-plain-requires
-    returns-3
-    enum-known-answer
-    enum-told
-    returns-4
-    strict-requires
-    returns-5)
+    under-requires
+    returns)

@@ -1,0 +1,119 @@
+// A view for those who write tools: a column's bytes together with its opened numbers, in place of three things in each call. It takes Bitpacked and Linear columns, which have no block table;
+// first stand the calls on plain parameters, then the view above them.
+ghost use mathlib.Core.Path.{_≡_};
+ghost use mathlib.Core.List.{[]};
+ghost use Rattle.format.specs.Refusals.{openedMeaning, rowMeaning};
+ghost use Rattle.format.specs.Opening.{columnIn};
+ghost use Rattle.format.specs.Reading.{rowAt};
+ghost use Rattle.format.specs.Viewing.{viewedUnder};
+ghost use Rattle.view.specs.Held.{forView, columnOr};
+use format::Block;
+use format::Codec;
+use format::Column;
+use format::ColumnRow;
+use format::Line;
+use format::Opened;
+use format::Refusal;
+use format::RowRead;
+
+// What opening with no room for a block answers, for a view. A Blockwise column lacks room, or it opens because it has no rows; a view takes neither.
+fn for_view(answer: Opened) -> Opened
+    ensures { λ r. ⌜ openedMeaning r ≡ forView (openedMeaning answer) ⌝ }
+{
+    match answer {
+        Opened::Column(column, _) => {
+            let codec = column.codec;
+            match codec {
+                Codec::Bitpacked => answer,
+                Codec::Linear(_, _) => answer,
+                Codec::Blockwise => Opened::Refused(Refusal::NotForView),
+            }
+        }
+        Opened::Refused(why) => {
+            if why.number() == 11 {
+                return Opened::Refused(Refusal::NotForView);
+            }
+            answer
+        }
+    }
+}
+
+// The column that an answer leaves to a view: where it refuses, one of no rows.
+fn column_of(answer: Opened) -> Column
+    ensures { λ r. ⌜ r ≡ columnOr (openedMeaning answer) ⌝ }
+{
+    match answer {
+        Opened::Column(column, _) => column,
+        Opened::Refused(_) => Column {
+            minimum: 0,
+            gcd: 0,
+            count: 0,
+            rows: 0,
+            start: 0,
+            size: 0,
+            codec: Codec::Bitpacked,
+        },
+    }
+}
+
+// Opens a column for a view, under an acceptance sheet that the caller names.
+pub fn open_plain(sheet: u32, bytes: &[u8]) -> Opened
+    ensures { λ r. ⌜ openedMeaning r ≡ columnIn (viewedUnder sheet (now (bytes .entry))) ⌝ }
+{
+    let answer = for_view(u64_based::open_plain(bytes, 0));
+    sheets::under(sheet, answer, bytes)
+}
+
+// The value of a row of such a column, with its bytes: as with an empty table.
+pub fn row_of(column: Column, bytes: &[u8], row: u32) -> RowRead
+    ensures { λ r. ⌜ rowMeaning r ≡ rowAt column [] (now (bytes .entry)) row ⌝ }
+{
+    let line = Line {
+        slope: 0,
+        intercept: 0,
+    };
+    let none = Block {
+        line,
+        bits: 0,
+        start: 0,
+    };
+    reading::reader::row_in(column, 0, none, bytes, ColumnRow(row))
+}
+
+// A column's bytes and its opened numbers.
+pub struct View<'a> {
+    pub bytes: &'a [u8],
+    pub column: Column,
+}
+
+// What opening answers, and the view. (An enum cannot hold a reference: where opening refuses, the view's column has no rows.)
+pub struct Opening<'a> {
+    pub answer: Opened,
+    pub view: View<'a>,
+}
+
+// Opens a view, under an acceptance sheet that the caller names.
+pub fn open<'a>(sheet: u32, bytes: &'a [u8]) -> Opening<'a>
+    ensures { λ r. ⌜ (openedMeaning (r .answer) ≡ columnIn (viewedUnder sheet (now (bytes .entry)))) × (r .view .bytes ≡ bytes .entry) × (r .view .column ≡ columnOr (columnIn (viewedUnder sheet (now (bytes .entry))))) ⌝ }
+{
+    let answer = open_plain(sheet, bytes);
+    let column = column_of(answer);
+    Opening {
+        answer,
+        view: View { bytes, column },
+    }
+}
+
+// The value of a row of the view's column.
+pub fn row<'a>(view: View<'a>, row: u32) -> RowRead
+    ensures { λ r. ⌜ rowMeaning r ≡ rowAt (view .entry .column) [] (now (view .entry .bytes)) row ⌝ }
+{
+    row_of(view.column, view.bytes, row)
+}
+
+// How many rows the view has.
+pub fn rows<'a>(view: View<'a>) -> u32
+    ensures { λ r. ⌜ r ≡ view .entry .column .rows ⌝ }
+{
+    view.column.rows
+}
