@@ -1,14 +1,18 @@
 -- A replay under way, from record to record and from chunk to chunk. Over any reading.
---     chunk-met, chunk-differs, chunk-refused       what is left of a record behind a chunk
---     rows-done, none-here                          a record with no rows left
---     at-hand, onward, differ-at, all-done, refused      from record to record
---     ended, is-over, is-on-hand                    the phase
+--     chunk-met, chunk-differs, chunk-refused                  what is left of a record behind a chunk
+--     done-agrees, done-differs                                a record with no rows left
+--     whole, onward, differ-at, all-done, refused, begins      from record to record
+--     ended, goes-on, is-over, is-on-hand, left-over           the phase by what the state says
+--     Skipping, skip-starts, skip-differs, skip-more           over records without rows
+--     at-hand, hand-left                                       the next that has some
+--     refuses, strays, goes-later, stops-short, next-record    a record at hand, behind a chunk
+--     left-some, left-later, left-next                         what is left falls
 -- Assumes nothing.
 use Prim.Native.Nat.{ℕ, suc, _+_, _-_, _*_, _^_, _≤_, _<_, min}
 use mathlib.Core.Path.{_≡_, refl, sym, ap, _∙_}
 use mathlib.Core.Bool.{Bool, true, false}
 use mathlib.Core.Option.{Option, none, some}
-use mathlib.Core.List.{List, [], _∷_, _++_}
+use mathlib.Core.List.{List, [], _++_}
 use native.Mathlib.Nat.{add-zero}
 use native.Mathlib.Numerals.{add-one}
 use native.Mathlib.Omega.{arith}
@@ -21,12 +25,12 @@ use Rattle.format.specs.declared.Replayed.the-variants.{Agree, Differ, Refused}
 use Rattle.format.specs.Lookup.{allRead, rowsPassing, within}
 use Rattle.format.specs.Outcome.{Outcome, Outcome.value, Outcome.refusal, _>>_, pick}
 use Rattle.format.specs.Refusals.{numbered, replayedMeaning}
-use Rattle.format.specs.Replaying.{headerOf, recordAt, listedFrom, sameRows, areRows, foundAre, agrees, firstDiffering, reported, isRecording, replayed}
+use Rattle.format.specs.Replaying.{headerOf, recordAt, sameRows, areRows, foundAre, agrees, firstDiffering, reported, isRecording, replayed}
 use Rattle.format.specs.Runs.{readRun}
 use Rattle.reading.specs.Walks.{rowsIn}
 use Rattle.replaying.proofs.Behind.{all-behind, all-stops, all-none, rows-behind, rows-none}
 use Rattle.replaying.specs.declared.walking.Walk.{Walk}
-use Rattle.replaying.specs.Walking.{toCome, Onward, Going, OnHand, Replaying, left}
+use Rattle.replaying.specs.Walking.{toCome, Onward, OnHand, Replaying, left}
 use Rattle.replaying.proofs.Meets.{come-next, come-none}
 
 -- ---- behind a chunk

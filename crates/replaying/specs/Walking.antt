@@ -9,7 +9,7 @@ use Rattle.format.specs.declared.Recorded.{Recorded}
 use Rattle.format.specs.Lookup.{within}
 use Rattle.format.specs.Outcome.{Outcome, pick}
 use Rattle.format.specs.Refusals.{replayedMeaning}
-use Rattle.format.specs.Replaying.{headerOf, recordAt, listedFrom, isRecording, foundAre, agrees, firstDiffering, replayed}
+use Rattle.format.specs.Replaying.{headerOf, listedFrom, isRecording, foundAre, agrees, firstDiffering, replayed}
 use Rattle.replaying.specs.declared.walking.Walk.{Walk}
 
 -- the recorded rows of a record behind the first n

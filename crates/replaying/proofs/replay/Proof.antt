@@ -1,4 +1,4 @@
--- `replaying::replay` meets its contract.
+-- `replaying::replay` meets its contract: each turn leaves the replay under way.
 -- Assumes nothing.
 use mathlib.Core.Path.{refl, ap, _∙_}
 use denote.Ref.{now}

@@ -1,4 +1,4 @@
--- `replaying::parsing::all_stand` meets its contract.
+-- `replaying::parsing::all_stand` meets its contract: the records from k on are tested as all are.
 -- Assumes nothing.
 use Prim.Native.Nat.{_-_}
 use borrow.Author.Tests.{not-true, not-false}

@@ -1,4 +1,4 @@
--- `replaying::parsing::are_apart` meets its contract.
+-- `replaying::parsing::are_apart` meets its contract: an empty region, or one behind the other.
 -- Assumes nothing.
 use mathlib.Core.Path.{refl}
 use borrow.Author.Tests.{eq-eqb, ne-eqb, le-leb, lt-leb}

@@ -1,4 +1,4 @@
--- `replaying::parsing::eight_at` meets its contract.
+-- `replaying::parsing::eight_at` meets its contract: two numbers of four bytes.
 -- Assumes nothing.
 use native.Mathlib.Omega.{arith}
 use denote.Ref.{now}

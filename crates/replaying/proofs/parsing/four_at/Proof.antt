@@ -1,4 +1,4 @@
--- `replaying::parsing::four_at` meets its contract.
+-- `replaying::parsing::four_at` meets its contract: four bytes, little end first; 0 where they leave the recording.
 -- Assumes nothing.
 use native.Mathlib.Omega.{arith}
 use mathlib.Core.Path.{_∙_}

@@ -1,4 +1,4 @@
--- `replaying::parsing::header_of` meets its contract.
+-- `replaying::parsing::header_of` meets its contract: four numbers.
 -- Assumes nothing.
 use Rattle.replaying.proofs.Numbers.{header-is}
 use borrow.Author.Needs.{needs}

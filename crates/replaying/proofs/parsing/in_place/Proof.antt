@@ -1,4 +1,4 @@
--- `replaying::parsing::in_place` meets its contract.
+-- `replaying::parsing::in_place` meets its contract: its three tests are the definition's.
 -- Assumes nothing.
 use mathlib.Core.Path.{refl}
 use borrow.Author.Tests.{eq-eqb, ne-eqb, le-leb, lt-leb}

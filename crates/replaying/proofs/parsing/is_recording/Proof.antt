@@ -1,4 +1,4 @@
--- `replaying::parsing::is_recording` meets its contract.
+-- `replaying::parsing::is_recording` meets its contract: the header, the regions, and every record.
 -- Assumes nothing.
 use mathlib.Core.Path.{sym, _∙_}
 use borrow.Author.Tests.{not-true, not-false}

@@ -1,4 +1,4 @@
--- `replaying::parsing::listed_at` meets its contract.
+-- `replaying::parsing::listed_at` meets its contract: a place is an index.
 -- Assumes nothing.
 use mathlib.Core.Path.{_∙_}
 use Rattle.replaying.proofs.Numbers.{listed-is}

@@ -1,4 +1,4 @@
--- `replaying::parsing::record_at` meets its contract.
+-- `replaying::parsing::record_at` meets its contract: six numbers.
 -- Assumes nothing.
 use Rattle.replaying.proofs.Numbers.{record-is}
 use borrow.Author.Needs.{needs}

@@ -1,4 +1,4 @@
--- `replaying::parsing::regions_fit` meets its contract.
+-- `replaying::parsing::regions_fit` meets its contract: each region, and both together.
 -- Assumes nothing.
 use mathlib.Core.Path.{sym, _∙_}
 use borrow.Author.Tests.{not-true, not-false}

@@ -1,4 +1,4 @@
--- `replaying::parsing::stands` meets its contract.
+-- `replaying::parsing::stands` meets its contract: no sum leaves 64 bits.
 -- Assumes nothing.
 use Prim.Native.Nat.{_+_}
 use mathlib.Core.Path.{ap}

@@ -1,4 +1,4 @@
--- `replaying::walking::begin` meets its contract.
+-- `replaying::walking::begin` meets its contract: bytes that are no recording, or the first record that has rows.
 -- Assumes nothing.
 use mathlib.Core.Path.{sym, _∙_}
 use borrow.Author.Tests.{not-true, not-false}

@@ -1,4 +1,4 @@
--- `replaying::walking::behind` meets its contract.
+-- `replaying::walking::behind` meets its contract: rows of the same record, a record whose rows are missing, or the next record.
 -- Assumes nothing.
 use Rattle.replaying.proofs.Walks.{ended, left-over, goes-later, stops-short, next-record, left-some, left-later, left-next}
 use borrow.Author.Needs.{needs}

@@ -1,4 +1,4 @@
--- `replaying::walking::go_on` meets its contract.
+-- `replaying::walking::go_on` meets its contract: records without rows are passed by while nothing is recorded of them.
 -- Assumes nothing.
 use Prim.Native.Nat.{_-_}
 use native.Mathlib.Omega.{arith}

@@ -1,4 +1,4 @@
--- `replaying::walking::met_all` meets its contract.
+-- `replaying::walking::met_all` meets its contract: each value is compared in its turn.
 -- Assumes nothing.
 use Prim.Native.Nat.{_-_}
 use lib.ListN.{length}

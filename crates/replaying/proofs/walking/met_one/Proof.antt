@@ -1,4 +1,4 @@
--- `replaying::walking::met_one` meets its contract.
+-- `replaying::walking::met_one` meets its contract: a row that is not looked for, one too many, another, or the next recorded one.
 -- Assumes nothing.
 use mathlib.Core.Path.{sym, _∙_}
 use native.Mathlib.Omega.{arith}

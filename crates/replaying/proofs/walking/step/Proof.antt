@@ -1,4 +1,4 @@
--- `replaying::walking::step` meets its contract.
+-- `replaying::walking::step` meets its contract: the buffer's front is as long as the chunk.
 -- Assumes nothing.
 use mathlib.Core.Path.{refl, sym, _∙_}
 use native.Mathlib.Omega.{arith}

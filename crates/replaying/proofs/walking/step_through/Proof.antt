@@ -1,13 +1,12 @@
--- `replaying::walking::step_through` meets its contract.
+-- `replaying::walking::step_through` meets its contract: the chunk is refused, its rows differ, or the replay goes on behind it.
 -- Assumes nothing.
-use mathlib.Core.Path.{refl, sym, _∙_, ap}
+use mathlib.Core.Path.{_∙_, ap}
 use native.Mathlib.Omega.{arith}
 use denote.Ref.{now}
 use lib.ListN.{length}
 use borrow.Author.Tests.{not-true, not-false}
 use mathlib.Core.Bool.{Bool, false}
 use Rattle.format.specs.Outcome.{pick}
-use Rattle.format.specs.Reading.{rowAt}
 use Rattle.format.specs.Replaying.{sameRows}
 use Rattle.replaying.specs.Walking.{toCome}
 use Rattle.replaying.proofs.Walks.{is-on-hand, ended, left-over, left-some, refuses, strays}
