@@ -12,13 +12,12 @@ use Rattle.column_c.specs.Numbers.{told, filled}
 use Rattle.column_c.specs.Replaying.{reportNumbers, Reports}
 use Rattle.column_c.proofs.Answering.{twoOf}
 
-module _ {o : Outcome Report} {old : List ℕ} where
-  -- what a replay leaves
-  abbrev left : Outcome Report → List ℕ
-  left x = filled (x >>= (λ (p : Report). value (reportNumbers p))) old
+-- what a replay leaves
+abbrev left : (old : List ℕ) → Outcome Report → List ℕ
+left old x = filled (x >>= (λ (p : Report). value (reportNumbers p))) old
 
-  pub reported : (p : Report) {two new : List ℕ} → o ≡ value p → two ≡ 0 ∷ 0 ∷ [] → new ≡ reportNumbers p → Reports o two old new
-  reported p is puts numbers = record { refusal-is = puts ∙ sym (ap told is); report-is = numbers ∙ sym (ap left is) }
+pub reported : {o : Outcome Report} {old : List ℕ} (p : Report) {two new : List ℕ} → o ≡ value p → two ≡ 0 ∷ 0 ∷ [] → new ≡ reportNumbers p → Reports o two old new
+reported {o} {old} p is puts numbers = record { refusal-is = puts ∙ sym (ap told is); report-is = numbers ∙ sym (ap (left old) is) }
 
-  pub unreported : (q : Refusal) {two : List ℕ} → o ≡ numbered q → two ≡ twoOf q → Reports o two old old
-  unreported q is puts = record { refusal-is = puts ∙ sym (ap told is); report-is = sym (ap left is) }
+pub unreported : {o : Outcome Report} {old : List ℕ} (q : Refusal) {two : List ℕ} → o ≡ numbered q → two ≡ twoOf q → Reports o two old old
+unreported {o} {old} q is puts = record { refusal-is = puts ∙ sym (ap told is); report-is = sym (ap (left old) is) }
