@@ -1,5 +1,5 @@
 /* Columns of 64-bit numbers in the format of tantivy-columnar 0.27.0 (u64_based): statistics, writing, opening, reading, looking up.
- * Columns of signed numbers, dates, bools and floats are the second half of this file.
+ * Recorded lookups follow, and columns of signed numbers, dates, bools and floats are the second half of this file.
  *
  * Link with libcolumn_c.a, x86-64 code that `rt staticlib column_c` writes to target/staticlib. It needs no other library.
  *
@@ -53,6 +53,7 @@
  *    15      the list for found rows is too short                                                the rows found
  *    17      a byte offends acceptance sheet 2                                                   the first one's offset
  *    18      the sheet is neither 1 nor 2                                                        0
+ *    19      the bytes are no recording                                                          0
  */
 #ifndef HULEMARTOB_H
 #define HULEMARTOB_H
@@ -110,6 +111,20 @@ size_t hulemartob_lookup(const uint64_t column[12], const uint64_t *table, size_
  * was. Refused 12 before all else if the run leaves the rows; then the first row of it that hulemartob_row refuses decides (13, 14). */
 size_t hulemartob_run(const uint64_t column[12], const uint64_t *table, size_t table_len, const uint8_t *bytes, size_t bytes_len,
                       uint32_t first, uint64_t *out, size_t out_len, uint64_t refusal[2]);
+
+/* ---- recorded lookups
+ *
+ * A recording begins with four numbers of 32 bits, little end first, as all of it is: how many records, the offset of the first, how many row numbers,
+ * the offset of the first. A record is low and high, of 64 bits, then first, end, the place of its first row number in the list, and how
+ * many row numbers it has, of 32 bits: 32 bytes. A row number has 32 bits. Both regions may lie anywhere behind the header, need not be
+ * aligned, and may touch but not overlap. The offset of a region without entries is not looked at. */
+
+/* Reruns the recorded lookups one after another, up to the first that does not find exactly its recorded rows; one that hulemartob_row would refuse a
+ * row of is such a one. `report` is now the index of that record, UINT64_MAX where all agree, and how many were run, the differing one
+ * included. Refused 19, before any lookup, where a header or region leaves the recording, a region begins inside the header, a record's
+ * place plus how many is above the list's length, or regions overlap. A refusal leaves `report` as it was. */
+void hulemartob_replay(const uint64_t column[10], const uint64_t *table, size_t table_len, const uint8_t *bytes, size_t bytes_len,
+                       const uint8_t *recording, size_t recording_len, uint64_t report[2], uint64_t refusal[2]);
 
 /* ---- columns of signed numbers, dates, bools and floats
  *

@@ -1,7 +1,6 @@
 // Compares the columns of two files, named as arguments, as text on standard output. The text is the library's, `comparison`; this program moves bytes.
 ghost use Prim.Native.Nat.{_≤_};
 ghost use lib.ListN.{length};
-ghost use Rattle.io.specs.Counts.{Counts};
 ghost use Rattle.comparison.specs.Chunk.{pairMax};
 use comparison::Begun;
 use format::Column;
@@ -11,28 +10,6 @@ use libc::STDOUT_FILENO;
 struct Lines {
     count: u32,
     whole: bool,
-}
-
-// Reads the file that an argument names, as far as there is room, and returns how many bytes it has there. One that cannot be opened, or read to its end,
-// has none; so has a missing argument, whose name is empty.
-fn read_named(argument: usize, bytes: &mut [u8]) -> usize
-    ensures { λ r. ⌜ Counts r (now (bytes .exit)) ⌝ }
-{
-    let mut name = io::buffer();
-    let long = os::arg(argument, &mut name);
-    let fd = os::open_read(&name[..long]);
-    if fd < 0 {
-        return 0;
-    }
-    let n = io::read_full(fd, bytes);
-    // A read that fails ends `read_full` as the end of the file does; reading on tells them apart.
-    let mut more = [0u8; 1];
-    let end = libc::read(fd, &mut more);
-    libc::close(fd);
-    if end < 0 {
-        return 0;
-    }
-    n
 }
 
 // Writes the lines of all rows that differ, a bufferful at a time, until a write fails.
@@ -91,7 +68,7 @@ fn main() {
     // One byte more than a comparison takes on each side, so that a longer column is told by its length.
     let mut left = [0u8; 65537];
     let mut right = [0u8; 65537];
-    let n = read_named(1, &mut left);
-    let m = read_named(2, &mut right);
+    let n = files::read_named(1, &mut left);
+    let m = files::read_named(2, &mut right);
     write_comparison(&left[..n], &right[..m]);
 }

@@ -72,6 +72,18 @@ unsafe extern "C" {
         refusal: *mut [u64; 2],
     ) -> usize;
 
+    fn hulemartob_replay(
+        column: *const [u64; 10],
+        table: *const u64,
+        table_len: usize,
+        bytes: *const u8,
+        bytes_len: usize,
+        recording: *const u8,
+        recording_len: usize,
+        report: *mut [u64; 2],
+        refusal: *mut [u64; 2],
+    );
+
     fn hulemartob_column_stats_as(kind: u32, values: *const u64, values_len: usize, stats: *mut [u64; 4], refusal: *mut [u64; 2]);
 
     fn hulemartob_serialize_as(
@@ -198,6 +210,26 @@ pub(crate) fn run(column: &[u64; 12], table: &[u64], bytes: &[u8], first: u32, o
         )
     };
     answer(refusal, many)
+}
+
+/// The index of the first record that differs, 2^64 - 1 where all agree, and how many were run.
+pub(crate) fn replay(column: &[u64; 10], table: &[u64], bytes: &[u8], recording: &[u8]) -> Result<[u64; 2], Refusal> {
+    let (mut report, mut refusal) = ([0; 2], [0; 2]);
+    // SAFETY: see the top of this file.
+    unsafe {
+        hulemartob_replay(
+            column,
+            table.as_ptr(),
+            table.len(),
+            bytes.as_ptr(),
+            bytes.len(),
+            recording.as_ptr(),
+            recording.len(),
+            &mut report,
+            &mut refusal,
+        )
+    };
+    answer(refusal, report)
 }
 
 // ---- values of a kind

@@ -24,6 +24,8 @@
 //! # Ok::<(), hulemartob::Refusal>(())
 //! ```
 //!
+//! Lookups can be recorded ([`RecordingBuilder`], [`Recording`]) and rerun over a column: [`Column::replay`].
+//!
 //! The code here passes numbers on to the static library of the crate `column_c`, and makes room for what it answers; nothing of the
 //! format is decided in Rust. The library is compiled for x86-64.
 
@@ -31,6 +33,7 @@
 compile_error!("libcolumn_c.a is x86-64 code");
 
 mod ffi;
+mod recording;
 mod refusal;
 mod typed;
 
@@ -38,6 +41,7 @@ use std::iter::FusedIterator;
 use std::ops::{Range, RangeInclusive};
 use std::sync::Arc;
 
+pub use recording::{Recorded, Recording, RecordingBuilder, Replay};
 pub use refusal::Refusal;
 pub use typed::{
     Date, Kind, Value, column_stats_as, serialize_as, serialize_as_into, serialize_bool, serialize_dates, serialize_f64, serialize_i64,

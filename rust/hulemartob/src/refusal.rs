@@ -24,6 +24,7 @@ use std::fmt;
 /// | 15 | the list for found rows is too short | the rows found |
 /// | 17 | a byte offends acceptance sheet 2 | the first one's offset |
 /// | 18 | the sheet is neither 1 nor 2 | |
+/// | 19 | the bytes are no recording | |
 #[derive(Clone, Copy, Debug, PartialEq, Eq, Hash)]
 pub struct Refusal {
     /// The number in the table.
@@ -53,6 +54,7 @@ impl Refusal {
             15 => "list too short, rows found",
             17 => "offends sheet 2, at offset",
             18 => "unknown sheet",
+            19 => "no recording",
             _ => "unknown refusal",
         }
     }

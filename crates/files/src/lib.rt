@@ -1,0 +1,24 @@
+// Files that a program's arguments name.
+ghost use Rattle.io.specs.Counts.{Counts};
+
+// Reads the file that an argument names, as far as there is room, and returns how many bytes it has there. One that cannot be opened, or read to its end,
+// has none; so has a missing argument, whose name is empty.
+pub fn read_named(argument: usize, bytes: &mut [u8]) -> usize
+    ensures { λ r. ⌜ Counts r (now (bytes .exit)) ⌝ }
+{
+    let mut name = io::buffer();
+    let long = os::arg(argument, &mut name);
+    let fd = os::open_read(&name[..long]);
+    if fd < 0 {
+        return 0;
+    }
+    let n = io::read_full(fd, bytes);
+    // A read that fails ends `read_full` as the end of the file does; reading on tells them apart.
+    let mut more = [0u8; 1];
+    let end = libc::read(fd, &mut more);
+    libc::close(fd);
+    if end < 0 {
+        return 0;
+    }
+    n
+}

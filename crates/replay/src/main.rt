@@ -1,0 +1,20 @@
+// Replays a recording over a column, both files named as arguments, and writes what that reports on standard output. The text is the library's, `reporting`; this
+// program moves bytes.
+use libc::STDOUT_FILENO;
+
+// Writes the report of a replay.
+fn write_report(bytes: &[u8], recording: &[u8]) {
+    let mut table = [0u64; 8192];
+    let mut line = [0u8; 128];
+    let n = reporting::report(bytes, &mut table, recording, &mut line);
+    io::write_all(STDOUT_FILENO, &line[..n]);
+}
+
+fn main() {
+    // One byte more than a report takes of each, so that a longer file is told by its length.
+    let mut bytes = [0u8; 65537];
+    let mut recording = [0u8; 262145];
+    let n = files::read_named(1, &mut bytes);
+    let m = files::read_named(2, &mut recording);
+    write_report(&bytes[..n], &recording[..m]);
+}

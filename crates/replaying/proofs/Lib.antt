@@ -1,0 +1,11 @@
+-- Laws of replaying; the head of each file lists what it offers.
+
+-- a recording
+pub mod Numbers
+-- comparing found rows as they come
+pub mod Meets
+pub mod Behind
+-- a replay under way
+pub mod Walks
+pub mod Determined
+pub mod Cases
