@@ -2,8 +2,9 @@
 --     opened-none, opened-unknown, opened-known         the code byte decides first; a known one leaves the head and the body
 --     body-blockwise                                    the body of a code that is neither 0 nor 1
 --     Tabled, opened-tabled                             the blocks of the rows that an answer has in the table were checked, fit the room, and are the rule's numbers
---     under-finds, under-table                          a column that a sheet accepts is what opening finds, and so is its table
---     opened-within                                     an opened column's area ends within the bytes
+--     accepted, under-finds, under-table                a column that a sheet accepts is what opening finds, and so is its table
+--     opened-within, under-none, under-unknown, under-one, is-two, under-refused, under-strict
+--                                                       opening under a sheet, in the order of the code
 -- Assumes nothing.
 use Prim.Native.Nat.{ℕ, zero, suc, _/_, _≤_, _<_}
 use mathlib.Core.Path.{_≡_, refl, sym, ap, _∙_, subst}
@@ -85,7 +86,7 @@ opened-tabled s room (value a) finds = go (opened s room) refl (finds a refl)
 -- ---- under a sheet
 
 -- what a sheet accepts, opening finds
-accepted : (sheet : ℕ) (s : List ℕ) (room : ℕ) (o : Loaded) → openedUnder sheet s room ≡ value o → opened s room ≡ value o
+pub accepted : (sheet : ℕ) (s : List ℕ) (room : ℕ) (o : Loaded) → openedUnder sheet s room ≡ value o → opened s room ≡ value o
 unfolding underSheet
 accepted zero s room o e = absurd (not-value e)
 accepted (suc zero) s room o e = e
