@@ -71,7 +71,7 @@ pub enum AreaRead {
 }
 
 // Where the footer ends: four bytes before the end of the column.
-fn footer_end(bytes: &[u8]) -> usize
+pub fn footer_end(bytes: &[u8]) -> usize
     ensures { λ r. ⌜ r ≡ length (now (bytes .entry)) - 4 ⌝ }
 {
     if bytes.len() < 4 {
@@ -81,7 +81,7 @@ fn footer_end(bytes: &[u8]) -> usize
 }
 
 // The footer's length: the bytes behind it, little end first.
-fn footer_len(bytes: &[u8]) -> usize
+pub fn footer_len(bytes: &[u8]) -> usize
     ensures { λ r. ⌜ r ≡ bytesNum (drop (length (now (bytes .entry)) - 4) (now (bytes .entry))) ⌝ }
 {
     let end = footer_end(bytes);

@@ -1,0 +1,117 @@
+// What each byte of a column is, and which rows a byte of the packed area holds: the parts one after another, the part of an offset, and the rows that own a
+// bit of a byte. The calls take an opened column with its bytes, and ask nothing of them: what does not fit together at an offset is refused.
+mod measuring;
+mod naming;
+mod owning;
+
+ghost use mathlib.Core.Path.{_≡_};
+ghost use Rattle.format.specs.Parts.{partAt};
+ghost use Rattle.explaining.specs.Walk.{walked, sought};
+ghost use Rattle.explaining.specs.Bytes.{fitsAt, partOf, rowsOf, partMeaning, rowsMeaning};
+use format::Column;
+use format::Owners;
+use format::Part;
+use format::Refusal;
+use naming::Name;
+
+// A place between parts: the number of the next part, and the offset where it begins. The first is part 0 at offset 0.
+pub struct Cursor {
+    pub number: usize,
+    pub at: usize,
+}
+
+// The next part and the place behind it; or no part is left.
+pub enum Walked {
+    Part(Part, Cursor),
+    Done,
+}
+
+// What a search for the part of an offset finds; the offset may lie behind all parts.
+pub enum Sought {
+    Part(Part),
+    Nothing,
+}
+
+// The part that holds the byte at an offset.
+pub enum PartRead {
+    Part(Part),
+    Refused(Refusal),
+}
+
+// The rows that own a bit of the byte at an offset.
+pub enum RowsRead {
+    Owners(Owners),
+    Refused(Refusal),
+}
+
+// The part at a place.
+pub fn next_part(column: Column, bytes: &[u8], place: Cursor) -> Walked
+    ensures { λ r. ⌜ r ≡ walked (now (bytes .entry)) column place ⌝ }
+{
+    let codec = column.codec;
+    match naming::name_at(codec, column.rows, place.number) {
+        Name::Nothing => Walked::Done,
+        Name::Part(name) => {
+            let part = measuring::part_here(column, bytes, name, place.at);
+            Walked::Part(
+                part,
+                Cursor {
+                    number: place.number + 1,
+                    at: place.at + part.bytes,
+                },
+            )
+        }
+    }
+}
+
+// The first part that ends behind an offset.
+fn seek(column: Column, bytes: &[u8], offset: usize) -> Sought
+    ensures { λ r. ⌜ r ≡ sought (partAt (now (bytes .entry)) column offset) ⌝ }
+{
+    let mut place = Cursor { number: 0, at: 0 };
+    loop {
+        match next_part(column, bytes, place) {
+            Walked::Done => return Sought::Nothing,
+            Walked::Part(part, next) => {
+                if offset < next.at {
+                    return Sought::Part(part);
+                }
+                place = next;
+            }
+        }
+    }
+}
+
+// Whether column and bytes fit together at an offset: the area lies in the bytes, and so does the offset.
+fn fits_at(column: Column, bytes: &[u8], offset: usize) -> bool
+    ensures { λ r. ⌜ r ≡ fitsAt (now (bytes .entry)) column offset ⌝ }
+{
+    if !word::ends_within(column.start, column.size, bytes.len()) {
+        return false;
+    }
+    offset < bytes.len()
+}
+
+// The part that holds the byte at an offset.
+pub fn part_at(column: Column, bytes: &[u8], offset: usize) -> PartRead
+    ensures { λ r. ⌜ partMeaning r ≡ partOf (now (bytes .entry)) column offset ⌝ }
+{
+    if !fits_at(column, bytes, offset) {
+        return PartRead::Refused(Refusal::Unfit);
+    }
+    match seek(column, bytes, offset) {
+        Sought::Part(part) => PartRead::Part(part),
+        Sought::Nothing => PartRead::Refused(Refusal::Unfit),
+    }
+}
+
+// The rows that own a bit of the byte at an offset, from the first to the last. None does before the packed area, behind it, and where a byte of it has filling
+// bits only.
+pub fn rows_at(column: Column, table: &[u64], bytes: &[u8], offset: usize) -> RowsRead
+    ensures { λ r. ⌜ rowsMeaning r ≡ rowsOf (now (bytes .entry)) column (now (table .entry)) offset ⌝ }
+{
+    if !fits_at(column, bytes, offset) {
+        return RowsRead::Refused(Refusal::Unfit);
+    }
+    RowsRead::Owners(owning::owners_at(column, table, offset))
+}
