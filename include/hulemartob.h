@@ -123,7 +123,7 @@ size_t hulemartob_run(const uint64_t column[12], const uint64_t *table, size_t t
  * row of is such a one. `report` is now the index of that record, UINT64_MAX where all agree, and how many were run, the differing one
  * included. Refused 19, before any lookup, where a header or region leaves the recording, a region begins inside the header, a record's
  * place plus how many is above the list's length, or regions overlap. A refusal leaves `report` as it was. */
-void hulemartob_replay(const uint64_t column[10], const uint64_t *table, size_t table_len, const uint8_t *bytes, size_t bytes_len,
+void hulemartob_replay(const uint64_t column[12], const uint64_t *table, size_t table_len, const uint8_t *bytes, size_t bytes_len,
                        const uint8_t *recording, size_t recording_len, uint64_t report[2], uint64_t refusal[2]);
 
 /* ---- columns of signed numbers, dates, bools and floats

@@ -2,7 +2,7 @@
 """Checking a column against a list of values, by the model alone.
 
     tools/answers/checks.py SHEET COLUMN VALUES     the verdict as a line; the values are 64-bit numbers, little end first
-    tools/answers/checks.py                         asks the cases in crates/checking/proofs/Cases.antt again
+    tools/answers/checks.py                         asks the cases in crates/format/proofs/CheckCases.antt again
 
 A verdict is None for a column that is passed, else the first reason why not.
 """
@@ -12,7 +12,7 @@ import sys
 
 from model import Refused, Stats, open_under, read_file, read_row
 
-CASES = "crates/checking/proofs/Cases.antt"
+CASES = "crates/format/proofs/CheckCases.antt"
 
 
 def reads(column, table, s, row):

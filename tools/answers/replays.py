@@ -2,7 +2,7 @@
 """Replaying recorded lookups, by the model: what a recording is, what a replay reports, and the cases of `replay_cases`.
 
     tools/answers/replays.py COLUMN RECORDING                        what `replay` has to print of two files
-    tools/answers/replays.py source > crates/replay_cases/src/main.rt    the program that shows the cases (then `rt fmt`)
+    tools/answers/replays.py cases > crates/replay_cases/data/cases      the cases that it reads
     tools/answers/replays.py stdout > crates/replay_cases/stdout         what it has to print
     tools/answers/replays.py example DIR                             a column and a recording that agrees, as files
 """
@@ -153,53 +153,24 @@ def cases():
         ("both together 2^32", BITPACKED, recorded([(0, 9, 0, 3, MOST, 1)], [5])),
         ("behind a record that differs", BITPACKED, recorded([(0, 9, 0, 3, 0, 1), (0, 9, 0, 3, 1, 1)], [5])),
     ]
-    yield "limits", [
-        ("a recording of 262,144 bytes", BITPACKED, RECORDING_MAX),
-        ("of one byte more", BITPACKED, RECORDING_MAX + 1),
-        ("a column of 65,537 bytes", 65537, TWO),
+    yield "no column", [
         ("no column and no recording", b"", b""),
-        ("no column, and a recording of too many bytes", b"\x03", RECORDING_MAX + 1),
         ("a column that does not open", BITPACKED[:-1], TWO),
     ]
 
 
-def held(item):
-    """The bytes of a case's column or recording; a number stands for so many zeros."""
-    return bytes(item) if isinstance(item, int) else item
-
-
-def spelled(item):
-    if isinstance(item, int):
-        return f"&[0u8; {item}]"
-    return 'b"' + "".join(f"\\x{b:02X}" for b in item) + '"'
-
-
-def source():
-    groups = list(cases())
-    lines = [
-        "// Replays recordings, below a title each, through the call that `replay` makes. tools/answers/replays.py wrote the cases and says what has to be printed.",
-        "use libc::STDOUT_FILENO;",
-        "",
-        "// Writes a title, and the report of a replay.",
-        "fn show(title: &[u8], bytes: &[u8], recording: &[u8]) {",
-        "    io::write_all(STDOUT_FILENO, title);",
-        "    let mut table = [0u64; 8192];",
-        "    let mut line = [0u8; 128];",
-        "    let n = reporting::report(bytes, &mut table, recording, &mut line);",
-        "    io::write_all(STDOUT_FILENO, &line[..n]);",
-        "}",
-        "",
-    ]
-    for name, items in groups:
-        lines += [f"// Cases: {name}.", f"fn show_{name.replace(' ', '_')}() {{"]
-        lines += [f'    show(b"{title}\\n", {spelled(column)}, {spelled(recording)});' for title, column, recording in items]
-        lines += ["}", ""]
-    lines += ["fn main() {"] + [f"    show_{name.replace(' ', '_')}();" for name, _ in groups] + ["}"]
-    return "\n".join(lines) + "\n"
+def file():
+    """The cases as `replay_cases` reads them: three lengths, then title, column and recording."""
+    parts = []
+    for _, items in cases():
+        for title, column, recording in items:
+            line = title.encode() + b"\n"
+            parts.append(words(len(line), len(column), len(recording)) + line + column + recording)
+    return b"".join(parts)
 
 
 def stdout():
-    return "".join(f"{title}\n{report(held(column), held(recording))}" for _, items in cases() for title, column, recording in items)
+    return "".join(f"{title}\n{report(column, recording)}" for _, items in cases() for title, column, recording in items)
 
 
 def example(folder):
@@ -212,8 +183,8 @@ def example(folder):
 
 if __name__ == "__main__":
     match sys.argv[1:]:
-        case ["source"]:
-            sys.stdout.write(source())
+        case ["cases"]:
+            sys.stdout.buffer.write(file())
         case ["stdout"]:
             sys.stdout.write(stdout())
         case ["example", folder]:

@@ -35,7 +35,7 @@ use Rattle.format.proofs.Lookups.{looked-agree}
 use Rattle.format.proofs.StoredLists.{stored-length, stored-words}
 use Rattle.format.proofs.Writes.{written-as}
 use Rattle.u64_based.proofs.Calls.{written-of, front-of, by-sheet}
-use Rattle.u64_based.proofs.Opens.{accepted}
+use Rattle.sheets.proofs.SheetNumbers.{accepted}
 use Rattle.checking.specs.Checked.{CheckedAs}
 use Rattle.checking.proofs.Verdicts.{through}
 
@@ -64,7 +64,7 @@ module _ (sheet : ℕ) (s table after vs : List ℕ) where
       go (value o) is f =
           let m = passed-matches (rowAt (o .column) (o .table) s) (o .column) vs (sym (f .answer)) in
           let each : (r : ℕ) → r < length vs → rowAt (o .column) after s r ≡ value (getD vs r 0) =
-          λ r h. through o s table after (o .column) (accepted sheet s (length table / 4) o is) refl (f .table) r (omega (arith, m .count)) ∙ m .rows r h in
+          λ r h. through o s table after (o .column) (accepted sheet s (opened s (length table / 4)) o is) refl (f .table) r (omega (arith, m .count)) ∙ m .rows r h in
           record {
             loaded = o;
             opens = is;

@@ -8,5 +8,5 @@ pub mod Verdicts
 -- of the calls
 pub mod Calls
 pub mod Determined
+
 -- computed cases
-pub mod Cases

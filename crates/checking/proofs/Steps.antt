@@ -82,19 +82,19 @@ module _ (read : ℕ → Outcome ℕ) where
   module _ {vs : List ℕ} {w : Walk} (f : Walking read vs w) where
     -- the chunk at hand: its values, and how many of them are the list's
     abbrev values : List ℕ
-    values = stretch read (w .at) (chunkSize (w .at) (length vs))
+    values = stretch read (w .at) (chunkSize (w .at) (length vs - w .at))
 
     abbrev same : ℕ
     same = sameFront values (drop (w .at) vs)
 
     few : length values ≤ length vs - w .at
-    few = omega (arith, stretch-most read (w .at) (chunkSize (w .at) (length vs)))
+    few = omega (arith, stretch-most read (w .at) (chunkSize (w .at) (length vs - w .at)))
 
     small : length values ≤ 512
-    small = omega (arith, stretch-most read (w .at) (chunkSize (w .at) (length vs)))
+    small = omega (arith, stretch-most read (w .at) (chunkSize (w .at) (length vs - w .at)))
 
     each : (j : ℕ) → j < length values → read (w .at + j) ≡ value (getD values j 0)
-    each j h = stretch-value read (w .at) (chunkSize (w .at) (length vs)) j h
+    each j h = stretch-value read (w .at) (chunkSize (w .at) (length vs - w .at)) j h
 
     here : drop same (drop (w .at) vs) ≡ drop (w .at + same) vs
     here = drop-drop same (w .at) vs
@@ -110,7 +110,7 @@ module _ (read : ℕ → Outcome ℕ) where
         (below-or same (length values)))
         (λ (no-value : length values ≤ 0).
         let at-once : same ≡ 0 = omega (arith, front-most values (drop (w .at) vs) .0) in
-        let why = none-refused (w .at) (chunkSize (w .at) (length vs)) (omega arith) (omega arith) in
+        let why = none-refused (w .at) (chunkSize (w .at) (length vs - w .at)) (omega arith) (omega arith) in
         rw at-once (rw add-zero (stop-refused read (w .at) (drop (w .at) vs) (why .0) (why .1) (omega (arith, length-drop (w .at) vs)) (why .2))))
         (below-or 0 (length values))
 
@@ -119,7 +119,7 @@ module _ (read : ℕ → Outcome ℕ) where
     unfolding firstUnequal
     no-row h = rw (here, drop-of-length-le vs {i = w .at + same} h) refl
 
-    stepped : {a : Stretch} {old new : List ℕ} → length old ≡ 512 → StretchAs read (w .at) (chunkSize (w .at) (length vs)) a old new
+    stepped : {a : Stretch} {old new : List ℕ} → length old ≡ 512 → StretchAs read (w .at) (chunkSize (w .at) (length vs - w .at)) a old new
         → Walking read vs (behind (counted a) (sameFront (take (counted a) new) (drop (w .at) vs)) w)
     stepped {a} {old} {new} room chunk = rw (chunk .count, chunk .list, front-of old values (omega (arith, small))) (record {
       inside = omega (arith, front-most values (drop (w .at) vs) .1, length-drop (w .at) vs, f .inside);
@@ -132,7 +132,7 @@ module _ (read : ℕ → Outcome ℕ) where
           (below-or (w .at + same) (length vs));
     })
 
-    less : {a : Stretch} {old new : List ℕ} → w .going ≡ true → length old ≡ 512 → StretchAs read (w .at) (chunkSize (w .at) (length vs)) a old new
+    less : {a : Stretch} {old new : List ℕ} → w .going ≡ true → length old ≡ 512 → StretchAs read (w .at) (chunkSize (w .at) (length vs - w .at)) a old new
         → left (length vs) (behind (counted a) (sameFront (take (counted a) new) (drop (w .at) vs)) w) < left (length vs) w
     less {a} {old} {new} on room chunk = rw (chunk .count, chunk .list, front-of old values (omega (arith, small)), on) (by (ltb 0 (length values) && leb (length values) same) refl)
       where
@@ -145,7 +145,7 @@ module _ (read : ℕ → Outcome ℕ) where
             omega (arith, front-most values (drop (w .at) vs) .1, length-drop (w .at) vs)
 
     -- the turn's answer
-    module _ {a : Stretch} {old new : List ℕ} {next : Walk} (room : length old ≡ 512) (chunk : StretchAs read (w .at) (chunkSize (w .at) (length vs)) a old new)
+    module _ {a : Stretch} {old new : List ℕ} {next : Walk} (room : length old ≡ 512) (chunk : StretchAs read (w .at) (chunkSize (w .at) (length vs - w .at)) a old new)
         (is : next ≡ behind (counted a) (sameFront (take (counted a) new) (drop (w .at) vs)) w) where
       pub walking-step : Walking read vs next
       walking-step = subst (λ (x : Walk). Walking read vs x) (sym is) (stepped room chunk)
@@ -153,7 +153,7 @@ module _ (read : ℕ → Outcome ℕ) where
       pub step-less : w .going ≡ true → left (length vs) next < left (length vs) w
       step-less on = subst (λ (x : Walk). left (length vs) x < left (length vs) w) (sym is) (less on room chunk)
 
-    pub step-room : {a : Stretch} {old new : List ℕ} (long : ℕ) → long ≡ length vs → long < 2 ^ 32 → length old ≡ 512 → StretchAs read (w .at) (chunkSize (w .at) (length vs)) a old new
+    pub step-room : {a : Stretch} {old new : List ℕ} (long : ℕ) → long ≡ length vs → long < 2 ^ 32 → length old ≡ 512 → StretchAs read (w .at) (chunkSize (w .at) (length vs - w .at)) a old new
         → (counted a ≤ length new) × (w .at ≤ long) × (w .at + counted a < 2 ^ 32)
     step-room {a} {old} {new} long is below room chunk =
         let count : counted a ≡ length values = chunk .count in

@@ -2,11 +2,12 @@
 --     Stands, told-opened, stands  what an answer that is a column comes from
 --     through                      a lent table that was filled answers the column's rows as the opening's own numbers do
 --     rows-few, maximum-fits       its rows have 32 bits, its maximum 64
+--     whole-chunk                  it is seen whole
 --     refused-unopened, counts-differ, walked-verdict
 --                                  the verdict: opening's refusal, the counts, or what the walk over the rows came to
 --     numbers-checked              of a list of numbers
 -- Assumes nothing.
-use Prim.Native.Nat.{ℕ, suc, _+_, _*_, _/_, _^_, _<_}
+use Prim.Native.Nat.{ℕ, suc, _+_, _-_, _*_, _/_, _^_, _<_}
 use mathlib.Core.Path.{_≡_, refl, sym, ap, _∙_, subst}
 use mathlib.Core.Bool.{false}
 use mathlib.Core.List.{List, [], _∷_}
@@ -27,15 +28,16 @@ use Rattle.format.specs.Checking.{Reason.counts, Verdict.failed, firstUnequal, 
 use Rattle.format.specs.Demands.{filledBy}
 use Rattle.format.specs.Opening.{Loaded, opened}
 use Rattle.format.specs.Outcome.{Outcome, Outcome.value, Outcome.refusal}
-use Rattle.format.specs.Reading.{rowAt}
+use Rattle.format.specs.Reading.{columnRow, rowAt}
 use Rattle.format.specs.Refusals.{paper, checkedMeaning}
 use Rattle.format.specs.Sheets.{openedUnder}
 use Rattle.format.specs.Typed.{storedAs}
-use Rattle.format.proofs.Laid.{opened-laid}
+use Rattle.format.proofs.Laid.{opened-laid, opened-whole}
 use Rattle.format.proofs.Outcomes.{not-value, value-same}
 use Rattle.format.proofs.Rows.{filled-row}
 use Rattle.format.proofs.StoredLists.{stored-numbers}
-use Rattle.u64_based.proofs.Opens.{accepted}
+use Rattle.sheets.proofs.SheetNumbers.{accepted}
+use Rattle.reading.specs.Chunks.{chunkSize}
 use Rattle.checking.specs.declared.rows.Walk.{Walk}
 use Rattle.checking.specs.Checked.{CheckedAs}
 use Rattle.checking.specs.Walks.{Walking, verdict}
@@ -59,10 +61,11 @@ pub through : (o : Loaded) (s table after : List ℕ) (c : Column) → opened s 
     → (r : ℕ) → r < c .rows → rowAt c after s r ≡ rowAt (o .column) (o .table) s r
 through o s table after c found is filled r h =
     let laid = opened-laid s (length table / 4) o found in
-    let inside : r < o .column .rows = subst (λ (k : Column). r < k .rows) (sym is) h in
+    let first : 0 ≡ o .column .window .first = ap (λ (l : Loaded). l .column .window .first) (opened-whole s (length table / 4) o found) in
+    let inside : columnRow (o .column) r < o .column .rows = omega (arith, first, subst (λ (k : Column). r < k .rows) (sym is) h) in
     ap (λ (l : List ℕ). rowAt c l s r) filled
     ∙ ap (λ (k : Column). rowAt k (filledBy o table) s r) (sym is)
-    ∙ filled-row o table s r (omega (arith, laid .table)) (laid .rows .present r inside)
+    ∙ filled-row o table s r (omega (arith, laid .table)) (laid .rows .present (columnRow (o .column) r) inside)
 
 module _ (sheet : ℕ) (s table after : List ℕ) (c : Column) (p : Spelling) (answer : OpenedAs (openedUnder sheet s (length table / 4)) (OpenedColumn c p) table after) where
   pub stands : (o : Loaded) × Stands sheet s table after c o
@@ -73,7 +76,7 @@ module _ (sheet : ℕ) (s table after : List ℕ) (c : Column) (p : Spelling) (a
         o,
         record {
           under = is;
-          found = accepted sheet s (length table / 4) o is;
+          found = accepted sheet s (opened s (length table / 4)) o is;
           column = sym (ap (λ (a : Column × Spelling). a .0) (value-same (r .answer)));
           filled = r .table;
         },
@@ -86,6 +89,15 @@ module _ (sheet : ℕ) (s table after : List ℕ) (c : Column) (p : Spelling) (a
       let e = stands .1 in
       let laid = opened-laid s (length table / 4) (stands .0) (e .found) in
       subst (λ (k : Column). k .rows < 2 ^ 32) (e .column) (laid .head .few)
+
+  -- it is seen whole, so its chunks are those of the list
+  pub whole-chunk : (at n : ℕ) → c .rows ≡ n → chunkSize (columnRow c at) (c .window .rows - at) ≡ chunkSize at (n - at)
+  whole-chunk at n long =
+      let e = stands .1 in
+      let is = opened-whole s (length table / 4) (stands .0) (e .found) in
+      let first : 0 ≡ c .window .first = subst (λ (k : Column). 0 ≡ k .window .first) (e .column) (ap (λ (l : Loaded). l .column .window .first) is) in
+      let rows : c .rows ≡ c .window .rows = subst (λ (k : Column). k .rows ≡ k .window .rows) (e .column) (ap (λ (l : Loaded). l .column .window .rows) is) in
+      omega (arith, first, rows, long)
 
   pub maximum-fits : c .minimum + c .gcd * c .count < 2 ^ 64
   maximum-fits =

@@ -20,10 +20,10 @@ use Rattle.format.specs.Listing.{codeOf}
 use Rattle.format.specs.Outcome.{Outcome, Outcome.value, Outcome.refusal}
 use Rattle.column_c.specs.Numbers.{ownNumbers, columnNumbers, columnWith, codecFrom, countsFit, columnFrom}
 
-pub own-three : (codec : Codec) → ownNumbers codec ≡ getD (ownNumbers codec) 0 0 ∷ getD (ownNumbers codec) 1 0 ∷ getD (ownNumbers codec) 2 0 ∷ []
-own-three Bitpacked = refl
-own-three (Linear l w) = refl
-own-three Blockwise = refl
+pub own-three : (codec : Codec) (more : List ℕ) → ownNumbers codec ++ more ≡ getD (ownNumbers codec) 0 0 ∷ getD (ownNumbers codec) 1 0 ∷ getD (ownNumbers codec) 2 0 ∷ more
+own-three Bitpacked more = refl
+own-three (Linear l w) more = refl
+own-three Blockwise more = refl
 
 -- the codec that twelve numbers name
 abbrev pub named : List ℕ → Outcome Codec
@@ -94,7 +94,7 @@ codec-back Blockwise byte = refl
 -- the numbers behind the first seven
 last-five : (c : Column) → ownNumbers (c .codec) ++ (c .window .first ∷ c .window .rows ∷ [])
     ≡ getD (ownNumbers (c .codec)) 0 0 ∷ getD (ownNumbers (c .codec)) 1 0 ∷ getD (ownNumbers (c .codec)) 2 0 ∷ c .window .first ∷ c .window .rows ∷ []
-last-five c = ap (λ (l : List ℕ). l ++ (c .window .first ∷ c .window .rows ∷ [])) (own-three (c .codec))
+last-five c = own-three (c .codec) (c .window .first ∷ c .window .rows ∷ [])
 
 pub handed-back : (c : Column) → Typed c → columnFrom (columnNumbers c) ≡ value c
 unfolding columnFrom

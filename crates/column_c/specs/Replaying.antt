@@ -19,9 +19,9 @@ indexOf (some k) = k
 abbrev pub reportNumbers : Report → List ℕ
 reportNumbers p = indexOf (p .differing) ∷ p .run ∷ []
 
--- replaying a recording over the column of ten numbers
+-- replaying a recording over the column of twelve numbers
 abbrev pub replayedFrom : (ns t s recording : List ℕ) → Outcome Report
-replayedFrom ns t s recording = columnFrom ns >>= (λ (col : Column). replayed (rowAt col t s) (col .rows) recording)
+replayedFrom ns t s recording = columnFrom ns >>= (λ (col : Column). replayed (rowAt col t s) (col .window .rows) recording)
 
 -- the numbers of its refusal, and its own
 pub record Reports (outcome : Outcome Report) (refusal report report′ : List ℕ) : Type 0 where

@@ -9,7 +9,7 @@ use format::Replayed;
 // Replays a recording over a column.
 #[no_mangle]
 pub extern "C" fn hulemartob_replay(
-    column: &[u64; 10],
+    column: &[u64; 12],
     table: &[u64],
     bytes: &[u8],
     recording: &[u8],

@@ -25,7 +25,7 @@ use Rattle.format.proofs.Widths.{width-fits}
 use Rattle.format.proofs.Statistics.{multiples, multiples-length, multiple-at, multiple-back, multiple-within, count-below}
 use Rattle.format.proofs.Heads.{headBytes, writtenHead, countIn, behind-head}
 use Rattle.format.proofs.Openings.{bitpackedOf, opens-bitpacked}
-use Rattle.format.proofs.Sheets.{between-none, overfull-packed, clean-column}
+use Rattle.format.proofs.Sheets.{unclaimed-none, overfull-packed, clean-column}
 use Rattle.format.proofs.RoundTrip.{RoundTrips, begins}
 
 module _ (vs : List ℕ) where
@@ -69,7 +69,7 @@ module _ (vs : List ℕ) where
         overfull-packed column start bits ns [] (behind-head 0 vs area ∙ sym (append-nil area)) in
         clean-column column (bitpackedOf (writtenHead vs) .column) _
         (ap (λ (n : ℕ). overfull column (start + bytesFor (bits * n) - 1) (bits * n % 8)) (sym (multiples-length vs)) ∙ full)
-        (between-none (start + size) (length column) (omega (arith, column-length))) refl
+        (unclaimed-none (start + size) (length column) (omega (arith, column-length))) refl
 
     multiple-fits : (r : ℕ) → r < length vs → getD ns r 0 < 2 ^ bits
     multiple-fits r h = rw (multiple-at vs r h) (width-fits (countIn vs) _ (count-below vs each) (multiple-within vs r h))

@@ -16,11 +16,13 @@ use Rattle.format.specs.declared.Owners.the-variants.{Rows, NoRow}
 use Rattle.format.specs.Outcome.{Outcome.value}
 use Rattle.format.specs.Packing.{rowsBits, bitsOf, bitAt}
 use Rattle.format.specs.Opening.{Loaded, opened}
+use Rattle.format.specs.Windows.{whole, inWindow}
 use Rattle.format.specs.Parts.{ownersAt}
-use Rattle.format.specs.Demands.{Owns, SameBits}
+use Rattle.format.specs.Demands.{Owns, SameBits, Differ, answered}
 use Rattle.format.specs.Blame.{Named, SameFields, Untouched, Blames, Blame, OnlyAt, BlameOne, BlameNone}
 use Rattle.format.proofs.Lists.{below-or}
 use Rattle.format.proofs.Bits.{rowsBits-at}
+use Rattle.format.proofs.Laid.{opened-whole}
 use Rattle.format.proofs.Elsewhere.{opened-same}
 use Rattle.format.proofs.Owning.{all-owned}
 use Rattle.format.proofs.Demand3.{rows-inside, rows-told}
@@ -60,13 +62,23 @@ module _ (s t : List ℕ) (room : ℕ) (o : Loaded) (e : opened s room ≡ value
 pub blame : Blame
 blame s t table other o p so tp f =
     let told = rows-told s t table other o p so tp (f .long) (opened-same s t (length table / 4) (length other / 4) o p so tp f) in
+    -- both are seen whole
+    let here : (r : ℕ) → r ≡ 0 + r = (λ (r : ℕ). omega arith) in
+    let left : inWindow o (whole o) ≡ o = opened-whole s (length table / 4) o so in
+    let right : inWindow p (whole o) ≡ p = ap (λ (q : Loaded). inWindow q (whole o)) (sym (told .same)) ∙ left ∙ told .same in
+    let agree : (r : ℕ) → r < o .column .rows → SameBits o s t r → answered o table s r ≡ answered p other t r =
+    (λ (r : ℕ) (h : r < o .column .rows) (bits : SameBits o s t r).
+    ap (λ (q : Loaded). answered q table s r) (sym left) ∙ told .agree (whole o) (omega arith) r h (subst (SameBits o s t) (here r) bits) ∙ ap (λ (q : Loaded). answered q other t r) right) in
     record {
       same = told .same;
       untouched = λ (r : ℕ) (h : r < o .column .rows) (same : Untouched o s t r).
-          told .agree r h (bytes-agree s t (length table / 4) o so (f .long) r h
+          agree r h (bytes-agree s t (length table / 4) o so (f .long) r h
           (λ (k : ℕ) (own : Owns o r k). same (k / 8) (names s t (length table / 4) o so (f .long) r h k own)));
-      agree = told .agree;
-      differ = told .differ;
+      agree = agree;
+      differ = λ (r : ℕ) (h : r < o .column .rows) (bits : SameBits o s t r → ⊥).
+          subst (λ (q : Loaded). Differ r (answered q table s r) (answered p other t r)) left
+          (subst (λ (q : Loaded). Differ r (answered (inWindow o (whole o)) table s r) (answered q other t r)) right
+          (told .differ (whole o) (omega arith) r h (λ same. bits (subst (SameBits o s t) (sym (here r)) same))));
     }
 
 -- a row is named or not

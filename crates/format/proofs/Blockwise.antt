@@ -19,14 +19,14 @@ use Rattle.format.specs.Packing.{unpack, bytesNum, numBytes}
 use Rattle.format.specs.Line.{lineAt, trained}
 use Rattle.format.specs.Bodies.{body, blockwise, blocks, blocksIn, blockCount, blockWidth, blockArea, blockEntry, joined, footer, columnBy}
 use Rattle.format.specs.Opening.{Loaded, columnOf, Table, readBlocks, opened}
-use Rattle.format.specs.Sheets.{between, overfull, lastFields, ending, strict}
+use Rattle.format.specs.Sheets.{unclaimed, overfull, lastFields, ending, strict}
 use Rattle.format.specs.Reading.{placeIn, packedOf, valueIn, blockAt}
 use Rattle.format.specs.Demands.{readsAs}
 use Rattle.format.proofs.Gathering.{length-numBytes, bytesNum-numBytes}
 use Rattle.format.proofs.Statistics.{multiples, multiples-length, multiple-at, multiple-back, multiple-within, count-below}
 use Rattle.format.proofs.Heads.{headBytes, writtenHead, countIn}
 use Rattle.format.proofs.Openings.{Begun, blockwiseOf, footerEnd, opens-blockwise}
-use Rattle.format.proofs.Sheets.{between-none, clean-column}
+use Rattle.format.proofs.Sheets.{unclaimed-none, clean-column}
 use Rattle.format.proofs.LastBlocks.{lastWidth, last-width, read-last, last-bits, last-clean}
 use Rattle.format.proofs.RoundTrip.{RoundTrips, begins}
 use Rattle.format.proofs.WrittenBlocks.{length-blocks, joined-most, block-back, entry-most, numbersFrom, read-blocks, BlockAt, blockOf, laterOf, parted, row-inside-block, row-of-block, table-block, area-block}
@@ -58,7 +58,7 @@ opens-with s front foot h room t begun e small enough read area =
 -- what is known of its end
 ends-with : (s front foot : List ℕ) (count rows bits at : ℕ) → s ≡ (front ++ foot) ++ numBytes 4 (length foot) → length foot < 2 ^ 32
     → lastFields (blockCount rows) (front ++ foot) 0 (length front) ≡ value (bits, at)
-    → ending Blockwise count rows s ≡ value (record { bits = bits; resumes = length front; later = between at (length (front ++ foot)) })
+    → ending Blockwise count rows s ≡ value (record { bits = bits; resumes = length front; later = unclaimed at (length (front ++ foot)) })
 unfolding ending
 ends-with s front foot count rows bits at e small read =
     let whole = front ++ foot in
@@ -163,8 +163,8 @@ module _ (vs : List ℕ) where
         ∙ read-last k ns (front ++ foot) 0 (length front) [] (drop-append-seam front foot ∙ sym (append-nil foot)) in
         rw (ends-with column front foot (countIn vs) (length vs) _ _ bytes (foot-short few) read)
         (clean-column column (opens .column) _ (area-clean k (foot ++ numBytes 4 (length foot)) refl)
-        (between-none (1 + length (headBytes vs) + length area) (length front) (omega (arith, ahead)))
-        (between-none (length front + length foot) (length (front ++ foot)) (omega (arith, length-append front foot))))
+        (unclaimed-none (1 + length (headBytes vs) + length area) (length front) (omega (arith, ahead)))
+        (unclaimed-none (length front + length foot) (length (front ++ foot)) (omega (arith, length-append front foot))))
 
     multiple-below : (r : ℕ) → r < length vs → getD ns r 0 < 2 ^ 64
     multiple-below r h = rw (multiple-at vs r h) (lt-of-le-of-lt (multiple-within vs r h) (count-below vs each))

@@ -77,5 +77,5 @@ cases = marked ++ (rules ++ (runs ++ (windows ++ longs)))
 
 -- the definitions give the right answer to each
 pub cases-hold : map (λ (c : Case). answer (question c)) cases ≡ map said cases
-unfolding answer lineOf upwards downwards times spell spellIn scan readVarint width bitLength bitsIn packed bytesOf rowsBits bitsOf numOf unpack statsOf reduce foldFrom gcd euclid spellHead readHead lineAt trained rising height slopeOf nearer residuals residualsFrom spellLine written known chosen sizeOf body bitpacked linear linearLine linearWidth deviations blockwise blocks blocksIn blockArea blockEntry blockWidth blockResiduals joined footer numBytes blockSize blockSizes saving exponentOf lastReached powerBounds reaches inF32 nearest opened openBody openBitpacked openLinear openBlockwise readWidth readFields readBlocks bytesNum lastFields ending strict openedUnder rowIn placeIn columnFits rowFits fits packedOf valueIn listing openedHere listed headLine named namedLine decimal decimalIn rowLine rowTexts comparison compared pairLines pairLine readRun decoded lookedUp allRead rowsPassing narrowed
+unfolding answer lineOf upwards downwards times spell spellIn scan readVarint width bitLength bitsIn packed bytesOf rowsBits bitsOf numOf unpack statsOf reduce foldFrom gcd euclid spellHead readHead lineAt trained rising height slopeOf nearer residuals residualsFrom spellLine written known chosen sizeOf body bitpacked linear linearLine linearWidth deviations blockwise blocks blocksIn blockArea blockEntry blockWidth blockResiduals joined footer numBytes blockSize blockSizes saving exponentOf lastReached powerBounds reaches inF32 nearest opened openBody openBitpacked openLinear openBlockwise readWidth readFields readBlocks bytesNum lastFields ending strict underSheet rowIn placeIn columnFits rowFits fits packedOf valueIn listing openedHere listed headLine named namedLine decimal decimalIn rowLine rowTexts comparison compared pairLines pairLine readRun decoded lookedUp allRead rowsPassing narrowed
 cases-hold = refl

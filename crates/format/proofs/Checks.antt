@@ -21,7 +21,7 @@ use Rattle.format.specs.Word.{AllBelow}
 use Rattle.format.specs.Bodies.{body, bitpacked, linear, blockwise, blockCount, columnBy}
 use Rattle.format.specs.Writing.{written}
 use Rattle.format.specs.Opening.{Loaded, opened}
-use Rattle.format.specs.Reading.{rowAt}
+use Rattle.format.specs.Reading.{columnRow, rowAt, askedAs}
 use Rattle.format.specs.Stats.{statsOf, least, greatest, gcdOf, readHead}
 use Rattle.format.specs.Lookup.{lookedUp}
 use Rattle.format.specs.Demands.{readsAs}
@@ -30,8 +30,8 @@ use Rattle.format.proofs.Outcomes.{value-same}
 use Rattle.format.proofs.Openings.{bitpackedOf, linearOf, blockwiseOf, by-opening}
 use Rattle.format.proofs.Heads.{writtenHead, countIn, read-head}
 use Rattle.format.proofs.Statistics.{count-back}
-use Rattle.format.proofs.Laid.{opened-laid}
-use Rattle.format.proofs.Rows.{row-answers}
+use Rattle.format.proofs.Laid.{opened-laid, opened-whole}
+use Rattle.format.proofs.Rows.{valueOf, row-answers}
 use Rattle.format.proofs.RoundTrip.{RoundTrips}
 use Rattle.format.proofs.Writes.{written-as}
 use Rattle.format.proofs.Bitpacked.{bitpacked-round}
@@ -159,13 +159,17 @@ written-passed vs cs bytes size room each e enough =
     let s = columnBy (w .codec) vs in
     let opens = back .opens room enough in
     let laid = opened-laid s room o opens in
+    let shows : o .column .rows ≡ o .column .window .rows = ap (λ (q : Loaded). q .column .window .rows) (opened-whole s room o opens) in
+    let first : 0 ≡ o .column .window .first = ap (λ (q : Loaded). q .column .window .first) (opened-whole s room o opens) in
     let head = head-kept s room (writtenHead vs) (written-head (w .codec) vs each (w .few)) o opens in
     let top : o .column .minimum + o .column .gcd * o .column .count ≡ greatest vs =
     rw (head .minimum, head .gcd, head .count) (ap (λ (x : ℕ). least vs + x) (mul-comm (gcdOf vs) (countIn vs)) ∙ count-back vs) in
     rw (w .is, opens)
     (matches-passed (rowAt (o .column) (o .table) s) (o .column) vs (record {
       count = back .count;
-      rows = λ r h. row-answers laid s (omega arith) r (omega (arith, back .count)) ∙ back .values r h;
+      rows = λ r h.
+          let here : columnRow (o .column) r ≡ r = omega (arith, first) in
+          row-answers laid s (omega arith) r (omega (arith, back .count, shows)) ∙ ap (askedAs r) (ap (valueOf o s) here ∙ back .values r h);
       least = head .minimum;
       step = head .gcd;
       greatest = top;

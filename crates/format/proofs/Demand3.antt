@@ -16,7 +16,7 @@ use Rattle.format.specs.Windows.{inWindow}
 use Rattle.format.specs.Demands.{Owns, Inside, Apart, SameBits, answered, LiesIn, Differ, RowsTell, Tell, Demand3}
 use Rattle.format.proofs.Lists.{below-or}
 use Rattle.format.proofs.Laid.{opened-laid, laid-in}
-use Rattle.format.proofs.Elsewhere.{opened-same}
+use Rattle.format.proofs.Elsewhere.{opened-same, alike-fields}
 use Rattle.format.proofs.Rows.{valueOf, answer-is, packed-same, bits-same, packed-small, value-tells}
 
 -- ---- where rows' bits lie
@@ -80,8 +80,8 @@ rows-told s t table other o p so tp long same =
     let to : opened t (length other / 4) ≡ value o = tp ∙ ap (λ (q : Loaded). value q) (sym same) in
     subst (λ (q : Loaded). RowsTell s t table other o q) same (record {
       same = refl;
-      agree = λ (w : Window) (inside : LiesIn w o) (r : ℕ) (h : r < w .rows). bits-agree s t table other o so to (a .long) w inside r h;
-      differ = λ (w : Window) (inside : LiesIn w o) (r : ℕ) (h : r < w .rows). bits-differ s t table other o so to (a .long) w inside r h;
+      agree = λ (w : Window) (inside : LiesIn w o) (r : ℕ) (h : r < w .rows). bits-agree s t table other o so to long w inside r h;
+      differ = λ (w : Window) (inside : LiesIn w o) (r : ℕ) (h : r < w .rows). bits-differ s t table other o so to long w inside r h;
     })
 
 pub rows-tell : Tell

@@ -18,7 +18,7 @@ use Rattle.format.specs.Packing.{bitLength}
 use Rattle.format.specs.Saving.{nearest, inF32, reaches, powerBounds, lastReached, exponentOf}
 use Rattle.format.proofs.Lists.{below-or}
 use Rattle.format.proofs.Widths.{bitLength-above, bitLength-tight, bitLength-most}
-use Rattle.format.proofs.Savings.{nearest-most, inF32-exact, every-at, bounds-rise, exponent-most, plainExponent}
+use Rattle.format.proofs.Savings.{nearest-most, pick-most, inF32-exact, every-at, bounds-rise, exponent-most, plainExponent}
 
 -- ---- f32s by their bits
 
@@ -103,15 +103,11 @@ module _ (n : ℕ) where
       go true e = subst (λ (c : ℕ). reaches n c ≡ true) here e
       go false e = r
 
-  pick-most : (t : Bool) (last k : ℕ) → last ≤ k → pick t k last ≤ suc k
-  pick-most true last k h = omega arith
-  pick-most false last k h = omega arith
-
   -- later places only go up
   goes-up : (last k : ℕ) (bs : List ℕ) → last ≤ k → last ≤ lastReached n last k bs
   unfolding lastReached
   goes-up last k [] h = le-refl last
-  goes-up last k (b ∷ bs) h = le-trans (go (reaches n b)) (goes-up (pick (reaches n b) k last) (suc k) bs (pick-most (reaches n b) last k h))
+  goes-up last k (b ∷ bs) h = le-trans (go (reaches n b)) (goes-up (pick (reaches n b) k last) (suc k) bs (pick-most (reaches n b) k last (suc k) (omega arith) (omega arith)))
     where
       go : (t : Bool) → last ≤ pick t k last
       go true = h
@@ -126,7 +122,7 @@ module _ (n : ℕ) where
       rw met (le-trans (le-of-eq (add-zero k)) (goes-up k (suc k) bs (omega arith)))
   not-passed last k (b ∷ bs) h s (suc i) l r =
       le-trans (le-of-eq (add-suc k i ∙ sym (suc-add k i)))
-      (not-passed (pick (reaches n b) k last) (suc k) bs (pick-most (reaches n b) last k h) (standing-rest k b bs s) i (le-of-suc-le-suc l)
+      (not-passed (pick (reaches n b) k last) (suc k) bs (pick-most (reaches n b) k last (suc k) (omega arith) (omega arith)) (standing-rest k b bs s) i (le-of-suc-le-suc l)
       (subst Reached (add-suc k i ∙ sym (suc-add k i)) r))
 
 -- ---- rounding keeps to the powers of two round a number

@@ -10,6 +10,7 @@ use native.Mathlib.Nat.{not-suc-le-zero, le-of-suc-le-suc, zero-lt-suc, mul-le-m
 use native.Mathlib.Omega.{arith}
 use lib.ListN.{length, take, drop, getD, length-append, length-map, length-take, length-drop}
 use lib.Seq.{getD-take, getD-drop}
+use Rattle.format.specs.declared.Line.{Line}
 use Rattle.format.specs.declared.ColumnStats.{ColumnStats}
 use Rattle.format.specs.Word.{bytesFor, modAdd, modSub, AllBelow}
 use Rattle.format.specs.Varint.{spell, spellIn}
@@ -47,9 +48,9 @@ spell-nine v w = omega (arith, spell-ten v, spell-some 9 w)
 bytes-mono : (a b : ℕ) → a ≤ b → bytesFor a ≤ bytesFor b
 bytes-mono a b h = omega arith
 
-line-length : (ys : List ℕ) → length (spellLine (trained ys)) ≡ length (spell (trained ys .slope)) + length (spell (trained ys .intercept))
+pub line-length : (l : Line) → length (spellLine l) ≡ length (spell (l .slope)) + length (spell (l .intercept))
 unfolding spellLine
-line-length ys = length-append (spell (trained ys .slope)) (spell (trained ys .intercept))
+line-length l = length-append (spell (l .slope)) (spell (l .intercept))
 
 -- of one value the line stays, and the residual is the value
 alone-width : (y : ℕ) → y < 2 ^ 64 → blockWidth (y ∷ []) ≡ width y
@@ -67,7 +68,7 @@ more-near t ys each h =
     let bytes : bytesFor (blockWidth (moved t ys) * length (moved t ys)) ≡ bytesFor (blockWidth ys * length ys) =
     ap (λ (w : ℕ). bytesFor (w * length (moved t ys))) bits ∙ ap (λ (n : ℕ). bytesFor (blockWidth ys * n)) (length-map ys (λ (v : ℕ). modAdd v t)) in
     let slope : length (spell (trained (moved t ys) .slope)) ≡ length (spell (trained ys .slope)) = ap (λ (v : ℕ). length (spell v)) (same .slope) in
-    omega (arith, line-length (moved t ys), line-length ys, spell-nine (trained (moved t ys) .intercept) (trained ys .intercept))
+    omega (arith, line-length (trained (moved t ys)), line-length (trained ys), spell-nine (trained (moved t ys) .intercept) (trained ys .intercept))
 
 alone-near : (t y : ℕ) → y < 2 ^ 64 → modAdd y t ≤ y → blockSize (modAdd y t ∷ []) ≤ blockSize (y ∷ []) + 9
 unfolding blockSize trained

@@ -71,3 +71,6 @@ pub mod LongCases
 pub mod Cases
 pub mod TypedCases
 pub mod PartCases
+pub mod ViewCases
+pub mod ReplayCases
+pub mod CheckCases

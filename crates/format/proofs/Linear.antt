@@ -35,7 +35,7 @@ use Rattle.format.proofs.Lines.{line-below, restored, residual-lowered,
 use Rattle.format.proofs.LineFields.{read-fields}
 use Rattle.format.proofs.Heads.{headBytes, writtenHead, countIn, behind-head}
 use Rattle.format.proofs.Openings.{linearOf, opens-linear}
-use Rattle.format.proofs.Sheets.{between-none, overfull-packed, clean-column}
+use Rattle.format.proofs.Sheets.{unclaimed-none, overfull-packed, clean-column}
 use Rattle.format.proofs.RoundTrip.{RoundTrips, begins}
 
 -- ---- the lowered line
@@ -142,7 +142,7 @@ module _ (vs : List ℕ) where
         overfull-packed column start bits left [] (behind-line ∙ sym (append-nil area)) in
         clean-column column (linearOf (writtenHead vs) fields .column) _
         (ap (λ (n : ℕ). overfull column (start + bytesFor (bits * n) - 1) (bits * n % 8)) (sym (residuals-length (linearLine vs) vs)) ∙ full)
-        (between-none (start + size) (length column) (omega (arith, column-length))) refl
+        (unclaimed-none (start + size) (length column) (omega (arith, column-length))) refl
 
     packed-back : (r : ℕ) → r < length vs → packedOf (linearOf (writtenHead vs) fields .column) (blockAt [] (r / 512)) column r ≡ modSub (getD vs r 0) (lineAt (linearLine vs) r)
     unfolding packedOf placeIn

@@ -78,7 +78,7 @@ filled-row o table s r fit there = filled-reading (o .column) (o .column .codec)
 
 -- ---- a row of an opened column
 
-or-true : (t : Bool) → (t || true) ≡ true
+pub or-true : (t : Bool) → (t || true) ≡ true
 or-true true = refl
 or-true false = refl
 

@@ -109,7 +109,7 @@ bound-sound k h = every-at (λ k bits. sound bits) powerBounds refl k h
 
 -- ---- the exponent
 
-pick-most : (t : Bool) (k last most : ℕ) → k ≤ most → last ≤ most → pick t k last ≤ most
+pub pick-most : (t : Bool) (k last most : ℕ) → k ≤ most → last ≤ most → pick t k last ≤ most
 pick-most true k last most h g = h
 pick-most false k last most h g = g
 

@@ -24,7 +24,7 @@ use Rattle.format.specs.Varint.{spell, firstOf, readVarint}
 use Rattle.format.specs.Stats.{readHead}
 use Rattle.format.specs.Bodies.{blockCount, joined}
 use Rattle.format.specs.Opening.{Loaded, Table, readWidth, readFields, readBlocks, opened}
-use Rattle.format.specs.Sheets.{lower, longer, between, overfull, Ending, lastFields, ending, offending, clean, strict, underSheet, openedUnder, entriesOf, partBytes}
+use Rattle.format.specs.Sheets.{lower, longer, unclaimed, overfull, Ending, lastFields, ending, offending, clean, strict, underSheet, openedUnder, entriesOf, partBytes}
 use Rattle.format.proofs.Outcomes.{not-value, value-same, by-step, by-demand}
 use Rattle.format.proofs.Varints.{spelled-stands}
 use Rattle.format.proofs.LineFields.{width-read}
@@ -119,8 +119,8 @@ longer-none : (p : Spelling) → longer p ≡ none → p ≡ Shortest
 longer-none Shortest e = refl
 longer-none (Longer offset) e = absurd (let z : _≡_ {A = ℕ} 0 1 = cc in omega arith)
 
-between-empty : (from to : ℕ) → between from to ≡ none → to ≤ from
-between-empty from to e = go (ltb from to) refl e
+unclaimed-empty : (from to : ℕ) → unclaimed from to ≡ none → to ≤ from
+unclaimed-empty from to e = go (ltb from to) refl e
   where
     go : (t : Bool) → ltb from to ≡ t → pick t (some from) none ≡ none → to ≤ from
     go true test e = absurd (let z : _≡_ {A = ℕ} 0 1 = cc in omega arith)
@@ -136,11 +136,11 @@ faultless : (s : List ℕ) (col : Column) (p : Spelling) (e : Ending) → clean 
 faultless s col p e met =
     let end = col .start + col .size in
     let filled = overfull s (end - 1) (e .bits * col .rows % 8) in
-    let gap = between end (e .resumes) in
+    let gap = unclaimed end (e .resumes) in
     let one = lower-none (longer p) (lower filled (lower gap (e .later))) (clean-none _ met) in
     let two = lower-none filled (lower gap (e .later)) (one .1) in
     let three = lower-none gap (e .later) (two .1) in
-    record { spelled = longer-none p (one .0); resumed = between-empty end (e .resumes) (three .0); later = three .1 }
+    record { spelled = longer-none p (one .0); resumed = unclaimed-empty end (e .resumes) (three .0); later = three .1 }
 
 -- ---- the parts
 
@@ -189,7 +189,7 @@ blockwise-parted s h room t f met =
     let short = first-shortest (h .spelling) (t .spelling) (fine .spelled) in
     let seam : h .next + t .area ≡ start = omega (arith, fine .resumed, f .area) in
     let inside : length (take end s) ≡ end = length-take end s ∙ omega (arith, f .four) in
-    let past : length (take end s) ≤ g .1 = omega (arith, inside, between-empty (g .1) end (fine .later)) in
+    let past : length (take end s) ≤ g .1 = omega (arith, inside, unclaimed-empty (g .1) end (fine .later)) in
     let none-left : drop (g .1) (take end s) ≡ [] = drop-of-length-le (take end s) past in
     let footer : drop start (take end s) ≡ whole blocks = blocks-stand (blockCount (h .rows)) (take end s) start 0 (h .rows) 0 t g (f .blocks) (short .1) last ∙ rw none-left (append-nil (whole blocks)) in
     let behind : drop start s ≡ whole blocks ++ (drop end s ++ []) =

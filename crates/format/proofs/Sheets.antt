@@ -2,7 +2,7 @@
 --     under-two                          what sheet 2 accepts, sheet 1 accepts, with the same answer and table
 --     refused-two                        what sheet 1 accepts and sheet 2 does not is refused 17
 --     by-unit                            a step that gives nothing
---     between-none, overfull-none, overfull-packed, clean-column
+--     unclaimed-none, overfull-none, overfull-packed, clean-column
 --                                        what a column without offending bytes has
 -- Assumes nothing.
 use mathlib.Core.Path.{_≡_, refl, ap, _∙_}
@@ -25,7 +25,7 @@ use Rattle.format.specs.Word.{bytesFor, AllBelow}
 use Rattle.format.specs.Packing.{numOf, rowsBits, bytesOf, packed}
 use Rattle.format.specs.Bodies.{blockCount}
 use Rattle.format.specs.Opening.{Loaded, Table, readFields, readBlocks, opened}
-use Rattle.format.specs.Sheets.{between, overfull, Ending, lastFields, ending, offending, clean, strict, underSheet, openedUnder}
+use Rattle.format.specs.Sheets.{unclaimed, overfull, Ending, lastFields, ending, offending, clean, strict, underSheet, openedUnder}
 use Rattle.format.proofs.Lists.{below-or, all-take, all-drop}
 use Rattle.format.proofs.Outcomes.{not-value, value-same, by-step}
 use Rattle.format.proofs.Openings.{OpensBitpacked, OpensLinear, OpensBlockwise, footerEnd, footerStart, by-opening}
@@ -66,7 +66,7 @@ ending-there s room =
     (λ (h : Head) (g : Fields) (f : OpensLinear s h g). (_, refl))
     (λ (h : Head) (t : Table) (f : OpensBlockwise s h room t).
     let r = last-there (blockCount (h .rows)) (take (footerEnd s) s) (footerStart s) 0 (h .rows) 0 t (f .blocks) in
-    (record { bits = r .0 .0; resumes = footerStart s; later = between (r .0 .1) (footerEnd s) }, rw (r .1)))
+    (record { bits = r .0 .0; resumes = footerStart s; later = unclaimed (r .0 .1) (footerEnd s) }, rw (r .1)))
 
 -- what sheet 1 accepts and sheet 2 does not is refused 17
 pub refused-two : (s : List ℕ) (room : ℕ) (o : Loaded) → opened s room ≡ value o
@@ -83,8 +83,8 @@ refused-two s room o is =
 
 -- ---- columns without offending bytes
 
-pub between-none : (from to : ℕ) → to ≤ from → between from to ≡ none
-between-none from to h = rw (le-ltb from to h)
+pub unclaimed-none : (from to : ℕ) → to ≤ from → unclaimed from to ≡ none
+unclaimed-none from to h = rw (le-ltb from to h)
 
 pub overfull-none : (s : List ℕ) (last bits : ℕ) → (0 < bits → getD s last 0 < 2 ^ bits) → overfull s last bits ≡ none
 overfull-none s last bits h =
@@ -94,7 +94,7 @@ overfull-none s last bits h =
     (below-or bits 1)
 
 pub clean-column : (s : List ℕ) (col : Column) (e : Ending) → overfull s (col .start + col .size - 1) (e .bits * col .rows % 8) ≡ none
-    → between (col .start + col .size) (e .resumes) ≡ none → e .later ≡ none → clean (offending s col Shortest e) ≡ value tt
+    → unclaimed (col .start + col .size) (e .resumes) ≡ none → e .later ≡ none → clean (offending s col Shortest e) ≡ value tt
 clean-column s col e full gap rest = rw (full, gap, rest)
 
 -- ---- the last byte of packed numbers

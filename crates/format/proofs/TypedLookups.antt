@@ -28,6 +28,7 @@ use Rattle.format.specs.Outcome.{Outcome, Outcome.value, Outcome.refusal
 use Rattle.format.specs.Reading.{columnRow, windowFits, columnFits, rowFits, fits, packedOf, blockAt, scaled, valueIn, valueAt, askedAs, rowIn, rowAt}
 use Rattle.format.specs.Lookup.{passes, rowsPassing, lookedUp, within}
 use Rattle.format.specs.Typed.{Reading, Keeps, Covers, between, signeds, flags, floats, signedRange, flagRange, floatRange, storedSigned, signedOf, storedFlag, flagOf, storedFloat}
+use Rattle.format.proofs.Rows.{or-true}
 use Rattle.format.proofs.Lists.{below-or}
 use Rattle.format.proofs.Outcomes.{not-value, by-demand, value-same}
 use Rattle.format.proofs.Runs.{scaled-below}
@@ -247,14 +248,10 @@ flag-covers low high u h = ap (λ t. t && (not (flagOf u) || high)) (first low) 
     first true = refl
     first false = sym (leb·zero u)
 
-    or-true : (b : Bool) → (not b || true) ≡ true
-    or-true true = refl
-    or-true false = refl
-
     zero-only : (n : ℕ) → (not (flagOf n) || false) ≡ leb n 0
     zero-only zero = refl
     zero-only (suc n) = ap (λ t. not t || false) (lt-ltb 0 (suc n) (zero-lt-suc n)) ∙ sym (leb·suc-zero n)
 
     last : (b : Bool) → (not (flagOf u) || b) ≡ leb u (flagRange b b .high)
-    last true = or-true (flagOf u) ∙ sym (le-leb u (2 ^ 64 - 1) (omega arith))
+    last true = or-true (not (flagOf u)) ∙ sym (le-leb u (2 ^ 64 - 1) (omega arith))
     last false = zero-only u

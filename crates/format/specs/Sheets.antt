@@ -34,8 +34,8 @@ longer Shortest = none
 longer (Longer offset) = some offset
 
 -- the first of the bytes from one offset up to another, where there are any
-abbrev pub between : (from to : ℕ) → Option ℕ
-between from to = pick (ltb from to) (some from) none
+abbrev pub unclaimed : (from to : ℕ) → Option ℕ
+unclaimed from to = pick (ltb from to) (some from) none
 
 -- an area's last byte, where bits of it above the last rows' are not 0; so many bits of it are rows'
 abbrev pub overfull : (s : List ℕ) (last bits : ℕ) → Option ℕ
@@ -62,7 +62,7 @@ ending Blockwise count rows s = do
   let end = length s - 4
   let start = end - bytesNum (drop end s)
   f ← lastFields (blockCount rows) (take end s) 0 start
-  value (record { bits = f .0; resumes = start; later = between (f .1) end })
+  value (record { bits = f .0; resumes = start; later = unclaimed (f .1) end })
 
 -- ---- the sheets
 
@@ -70,7 +70,7 @@ ending Blockwise count rows s = do
 abbrev pub offending : (s : List ℕ) → Column → Spelling → Ending → Option ℕ
 offending s col p e =
     let end = col .start + col .size in
-    lower (longer p) (lower (overfull s (end - 1) (e .bits * col .rows % 8)) (lower (between end (e .resumes)) (e .later)))
+    lower (longer p) (lower (overfull s (end - 1) (e .bits * col .rows % 8)) (lower (unclaimed end (e .resumes)) (e .later)))
 
 -- it is refused
 abbrev pub clean : Option ℕ → Outcome (Unit {0})

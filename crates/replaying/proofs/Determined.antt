@@ -11,7 +11,7 @@ use Rattle.format.specs.Replaying.{replayed}
 use Rattle.format.proofs.Answers.{replayed-injective}
 
 pub replay-determined : (column : Column) (table bytes recording : List ℕ) (r q : Replayed)
-    → replayedMeaning r ≡ replayed (rowAt column table bytes) (column .rows) recording
-    → replayedMeaning q ≡ replayed (rowAt column table bytes) (column .rows) recording
+    → replayedMeaning r ≡ replayed (rowAt column table bytes) (column .window .rows) recording
+    → replayedMeaning q ≡ replayed (rowAt column table bytes) (column .window .rows) recording
     → r ≡ q
 replay-determined column table bytes recording r q e f = replayed-injective r q (e ∙ sym f)

@@ -8,4 +8,3 @@ pub mod Behind
 -- a replay under way
 pub mod Walks
 pub mod Determined
-pub mod Cases

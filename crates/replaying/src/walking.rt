@@ -2,11 +2,11 @@
 ghost use mathlib.Core.Path.{_≡_};
 ghost use mathlib.Core.Bool.{Bool, true, false};
 ghost use mathlib.Core.List.{List, _∷_, _++_};
-ghost use Prim.Native.Nat.{ℕ, _+_, _-_, _*_, _/_, _^_, _≤_, _<_, min};
+ghost use Prim.Native.Nat.{ℕ, _+_, _-_, _*_, _/_, _%_, _^_, _≤_, _<_, min};
 ghost use lib.ListN.{length};
 ghost use Rattle.format.specs.Outcome.{Outcome, Outcome.value, pick};
 ghost use Rattle.format.specs.Lookup.{within};
-ghost use Rattle.format.specs.Reading.{blockAt, rowAt};
+ghost use Rattle.format.specs.Reading.{columnRow, blockAt, rowAt};
 ghost use Rattle.format.specs.Replaying.{sameRows};
 ghost use Rattle.format.specs.Runs.{readRun};
 ghost use Rattle.reading.specs.Chunks.{chunkSize};
@@ -18,11 +18,11 @@ use crate::parsing::listed_at;
 use crate::parsing::record_at;
 use format::Block;
 use format::Column;
-use format::ColumnRow;
 use format::Recorded;
 use format::Recording;
 use format::Refusal;
 use format::Replayed;
+use format::WindowRow;
 use reading::reader::Decoded;
 
 // Record k is at hand: its rows before `at` are done, and the first n recorded ones were found among them. While the replay is going on there are rows left; then its answer stands.
@@ -60,11 +60,12 @@ pub struct Met {
     pub n: u32,
 }
 
-// The block of the chunk at hand.
-pub(crate) fn block_of(w: Walk) -> usize
-    ensures { λ r. ⌜ r ≡ w .at / 512 ⌝ }
+// The block of the chunk at hand, as the column counts the window's rows.
+pub(crate) fn block_of(column: Column, w: Walk) -> usize
+    ensures { λ r. ⌜ r ≡ columnRow column (w .at) % 2 ^ 32 / 512 ⌝ }
 {
-    blockwise_linear::reader::split(ColumnRow(w.at)).block
+    let row = reading::reader::column_row(column.window.first, WindowRow(w.at));
+    blockwise_linear::reader::split(row).block
 }
 
 // The end row, cut to so many rows.
@@ -231,11 +232,11 @@ fn step_through(
     w: Walk,
     values: &mut [u64],
 ) -> Walk
-    requires { ⌜ Going (column .rows) w × (length (now values) ≡ chunkSize (w .at) (w .end)) ⌝ }
-    ensures { λ r. ⌜ ((table : List ℕ) → blocks ≡ length table / 4 → block ≡ blockAt table (w .at / 512) → Replaying (rowAt column table (now (bytes .entry))) (column .rows) (now (recording .entry)) w → Replaying (rowAt column table (now (bytes .entry))) (column .rows) (now (recording .entry)) r) ⌝ }
+    requires { ⌜ Going (column .window .rows) w × (length (now values) ≡ chunkSize (columnRow column (w .at)) (w .end - w .at)) ⌝ }
+    ensures { λ r. ⌜ ((table : List ℕ) → blocks ≡ length table / 4 → block ≡ blockAt table (columnRow column (w .at) % 2 ^ 32 / 512) → Replaying (rowAt column table (now (bytes .entry))) (column .window .rows) (now (recording .entry)) w → Replaying (rowAt column table (now (bytes .entry))) (column .window .rows) (now (recording .entry)) r) ⌝ }
     ensures { λ r. ⌜ left r < left w ⌝ }
 {
-    let decoded = reading::reader::decode(column, blocks, block, bytes, ColumnRow(w.at), values);
+    let decoded = reading::reader::decode(column, blocks, block, bytes, WindowRow(w.at), values);
     if let Decoded::Refused(_) = decoded {
         return over(Replayed::Differ {
             index: w.k,
@@ -249,10 +250,10 @@ fn step_through(
             run: w.k + 1,
         });
     }
-    behind(column.rows, recording, w, values.len(), met.n)
+    behind(column.window.rows, recording, w, values.len(), met.n)
 }
 
-// Internal: asks for a replay that is going on over rows of the column. One turn: the chunk at hand, with its block out of a table of so many.
+// Internal: asks for a replay that is going on over rows of the window. One turn: the chunk at hand, with its block out of a table of so many.
 pub(crate) fn step(
     column: Column,
     blocks: usize,
@@ -261,12 +262,13 @@ pub(crate) fn step(
     recording: &[u8],
     w: Walk,
 ) -> Walk
-    requires { ⌜ Going (column .rows) w ⌝ }
-    ensures { λ r. ⌜ ((table : List ℕ) → blocks ≡ length table / 4 → block ≡ blockAt table (w .at / 512) → Replaying (rowAt column table (now (bytes .entry))) (column .rows) (now (recording .entry)) w → Replaying (rowAt column table (now (bytes .entry))) (column .rows) (now (recording .entry)) r) ⌝ }
+    requires { ⌜ Going (column .window .rows) w ⌝ }
+    ensures { λ r. ⌜ ((table : List ℕ) → blocks ≡ length table / 4 → block ≡ blockAt table (columnRow column (w .at) % 2 ^ 32 / 512) → Replaying (rowAt column table (now (bytes .entry))) (column .window .rows) (now (recording .entry)) w → Replaying (rowAt column table (now (bytes .entry))) (column .window .rows) (now (recording .entry)) r) ⌝ }
     ensures { λ r. ⌜ left r < left w ⌝ }
 {
     let mut buffer = [0u64; 512];
-    let size = reading::walks::chunk_size(w.at, w.end);
+    let at = reading::reader::column_row(column.window.first, WindowRow(w.at));
+    let size = reading::walks::chunk_size(at, w.end - w.at);
     step_through(
         column,
         blocks,

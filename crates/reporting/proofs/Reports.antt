@@ -62,10 +62,10 @@ module _ (s recording : List ℕ) {r : Opened} {n : ℕ} {before after old new :
     reported-long long wrote = by-opening go wrote
       where
         go : (o : Outcome Loaded) → openedHere s ≡ o → OpenedAs o r before after → namedLine (ascii "recording refused ") 16 ≡ reportOr o s recording
-        go (value l) e f = replayed-long (rowAt (l .column) (l .table) s) (l .column .rows) recording long
+        go (value l) e f = replayed-long (rowAt (l .column) (l .table) s) (l .column .window .rows) recording long
         go (refusal number also) e f = absurd (let z : _≡_ {A = ℕ} 0 1 = cc in omega arith)
 
-    pub reported-run : (a : Replayed) → 8192 ≤ length after → length recording ≤ 262144 → replayedMeaning a ≡ replayed (rowAt c after s) (c .rows) recording
+    pub reported-run : (a : Replayed) → 8192 ≤ length after → length recording ≤ 262144 → replayedMeaning a ≡ replayed (rowAt c after s) (c .window .rows) recording
         → Wrote old 0 (reportLine (replayedMeaning a)) new n → ReportedAs s recording n before after old new
     reported-run a room short means wrote = by-opening go wrote
       where
@@ -77,6 +77,6 @@ module _ (s recording : List ℕ) {r : Opened} {n : ℕ} {before after old new :
             let own : answered l before s ≡ rowAt (l .column) (l .table) s = (λ i x. here-answers s l e before enough x i) in
             ap reportLine
             (means
-            ∙ rw (same, filled) (ap (λ (read : ℕ → Outcome ℕ). replayed read (l .column .rows) recording) own)
-            ∙ replayed-short (rowAt (l .column) (l .table) s) (l .column .rows) recording short)
+            ∙ rw (same, filled) (ap (λ (read : ℕ → Outcome ℕ). replayed read (l .column .window .rows) recording) own)
+            ∙ replayed-short (rowAt (l .column) (l .table) s) (l .column .window .rows) recording short)
         go (refusal number also) e f = absurd (let z : _≡_ {A = ℕ} 0 1 = cc in omega arith)

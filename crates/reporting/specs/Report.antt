@@ -28,7 +28,7 @@ replayedHere read rows recording = demand (leb (length recording) 262144) 16 [] 
 
 -- the line of what opening found, and of the recording
 abbrev pub reportOr : Outcome Loaded → (s recording : List ℕ) → List ℕ
-reportOr (value o) s recording = reportLine (replayedHere (rowAt (o .column) (o .table) s) (o .column .rows) recording)
+reportOr (value o) s recording = reportLine (replayedHere (rowAt (o .column) (o .table) s) (o .column .window .rows) recording)
 reportOr (refusal number also) s recording = namedLine (ascii "column refused ") number
 
 -- what the program writes of a column's bytes and a recording

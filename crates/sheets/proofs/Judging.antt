@@ -20,7 +20,7 @@ use Rattle.format.specs.declared.Spelling.{Spelling}
 use Rattle.format.specs.Outcome.{Outcome, Outcome.value, Outcome.refusal, _>>=_, pick}
 use Rattle.format.specs.Packing.{width}
 use Rattle.format.specs.Bodies.{blockCount}
-use Rattle.format.specs.Sheets.{lower, between, overfull, offending, lastFields, ending, strict}
+use Rattle.format.specs.Sheets.{lower, unclaimed, overfull, offending, lastFields, ending, strict}
 use Rattle.format.proofs.Outcomes.{not-value, value-same, by-step}
 use Rattle.blockwise_linear.specs.declared.reader.Last.{Last}
 use Rattle.blockwise_linear.specs.Reader.{upToLength, firstCursor, lastIn}
@@ -74,13 +74,13 @@ pub strict-linear : (s : List ℕ) (col : Column) (p : Spelling) (l : Line) (bit
 unfolding strict ending
 strict-linear s col p l bits is = rw is
 
-pub strict-blockwise : (s : List ℕ) (col : Column) (p : Spelling) (l : Last) (later : Option ℕ) → col .codec ≡ Blockwise → lastIn s (col .rows) ≡ value l → later ≡ between (l .at) (l .end)
+pub strict-blockwise : (s : List ℕ) (col : Column) (p : Spelling) (l : Last) (later : Option ℕ) → col .codec ≡ Blockwise → lastIn s (col .rows) ≡ value l → later ≡ unclaimed (l .at) (l .end)
     → heldAs (offending s col p (record { bits = l .bits; resumes = l .start; later = later })) col p ≡ strictAs s col p
 unfolding strict ending
 strict-blockwise s col p l later is last behind =
     by-step (lastFields (blockCount (col .rows)) (upToLength s) 0 (firstCursor s (col .rows) .at)) _ last λ f found same.
     ap (λ (o : Option ℕ). heldAs (offending s col p (record { bits = l .bits; resumes = l .start; later = o })) col p) behind
-    ∙ ap (λ (x : Last). heldAs (offending s col p (record { bits = x .bits; resumes = x .start; later = between (x .at) (x .end) })) col p) (sym (value-same same))
+    ∙ ap (λ (x : Last). heldAs (offending s col p (record { bits = x .bits; resumes = x .start; later = unclaimed (x .at) (x .end) })) col p) (sym (value-same same))
     ∙ rw (is, found)
 
 pub strict-refused : (s : List ℕ) (col : Column) (p : Spelling) (n : ℕ) (also : List ℕ) → col .codec ≡ Blockwise → lastIn s (col .rows) ≡ refusal n also → refusal n also ≡ strictAs s col p

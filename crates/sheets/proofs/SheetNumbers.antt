@@ -2,6 +2,7 @@
 --     under-none, under-unknown, under-one, is-two      by the sheet's number
 --     under-refused, under-strict                       sheet 2, from a refusal, or from a column
 --     under-columns                                     it is the sheet over what the opening found
+--     accepted                                          what a sheet accepts, the opening found
 -- Assumes nothing.
 use Prim.Native.Nat.{ℕ, zero, suc, _≤_, _<_}
 use mathlib.Core.Path.{_≡_, refl, sym, _∙_}
@@ -12,6 +13,8 @@ use Rattle.format.specs.declared.Spelling.{Spelling}
 use Rattle.format.specs.Outcome.{Outcome, Outcome.value, Outcome.refusal, _>>_}
 use Rattle.format.specs.Opening.{Loaded, columnIn}
 use Rattle.format.specs.Sheets.{strict, underSheet}
+use Rattle.format.proofs.Outcomes.{not-value, by-step}
+use Rattle.format.proofs.Sheets.{by-unit}
 use Rattle.sheets.specs.Faults.{strictAs, underAs}
 
 -- no sheet but 1 and 2
@@ -59,3 +62,14 @@ under-columns (suc (suc zero)) s (value o) = sym (behind o (strict s (o .column)
     behind o (value t) = refl
     behind o (refusal n also) = refl
 under-columns (suc (suc (suc sheet))) s o = refl
+
+-- what a sheet accepts, the opening found
+pub accepted : (sheet : ℕ) (s : List ℕ) (v : Outcome Loaded) (o : Loaded) → underSheet sheet s v ≡ value o → v ≡ value o
+unfolding underSheet
+accepted zero s v o e = absurd (not-value e)
+accepted (suc zero) s v o e = e
+accepted (suc (suc zero)) s v o e =
+    by-step v _ e λ l is e.
+    by-unit (strict s (l .column) (l .spelling)) (value l) e λ met same.
+    is ∙ same
+accepted (suc (suc (suc sheet))) s v o e = absurd (not-value e)

@@ -4,7 +4,7 @@ ghost use mathlib.Core.Path.{_≡_};
 ghost use Prim.Native.Nat.{_*_, _%_, _<_};
 ghost use lib.ListN.{length};
 ghost use Rattle.format.specs.Refusals.{openedMeaning};
-ghost use Rattle.format.specs.Sheets.{lower, longer, between, overfull, offending};
+ghost use Rattle.format.specs.Sheets.{lower, longer, unclaimed, overfull, offending};
 ghost use Rattle.sheets.specs.Faults.{faultMeaning, endingOf, heldAs, strictAs, underAs, Within, AllWithin};
 use blockwise_linear::reader::LastRead;
 use format::Codec;
@@ -45,8 +45,8 @@ fn longer(spelling: Spelling) -> Fault
 }
 
 // The first of the bytes from one offset up to another, if there are any.
-fn between(from: usize, to: usize) -> Fault
-    ensures { λ r. ⌜ faultMeaning r ≡ between from to ⌝ }
+fn unclaimed(from: usize, to: usize) -> Fault
+    ensures { λ r. ⌜ faultMeaning r ≡ unclaimed from to ⌝ }
 {
     if from < to {
         return Fault::At(from);
@@ -92,7 +92,7 @@ fn offending(
 {
     let end = column.start + column.size;
     let filled = overfull(bytes, end - 1, last_bits(bits, column.rows));
-    let gap = between(end, resumes);
+    let gap = unclaimed(end, resumes);
     lower(longer(spelling), lower(filled, lower(gap, later)))
 }
 
@@ -143,7 +143,7 @@ pub fn strict(column: Column, spelling: Spelling, bytes: &[u8]) -> Opened
         ),
         Codec::Blockwise => match blockwise_linear::reader::footer_last(bytes, column.rows) {
             LastRead::Last(l) => {
-                let later = between(l.at, l.end);
+                let later = unclaimed(l.at, l.end);
                 judged(column, spelling, bytes, l.bits, l.start, later)
             }
             LastRead::Refused(r) => Opened::Refused(r),

@@ -2,9 +2,8 @@
 --     opened-none, opened-unknown, opened-known         the code byte decides first; a known one leaves the head and the body
 --     body-blockwise                                    the body of a code that is neither 0 nor 1
 --     Tabled, opened-tabled                             the blocks of the rows that an answer has in the table were checked, fit the room, and are the rule's numbers
---     accepted, under-finds, under-table                a column that a sheet accepts is what opening finds, and so is its table
---     opened-within, under-none, under-unknown, under-one, is-two, under-refused, under-strict
---                                                       opening under a sheet, in the order of the code
+--     under-finds, under-table                          a column that a sheet accepts is what opening finds, and so is its table
+--     opened-within                                     an opened column's area ends within the bytes
 -- Assumes nothing.
 use Prim.Native.Nat.{ℕ, zero, suc, _/_, _≤_, _<_}
 use mathlib.Core.Path.{_≡_, refl, sym, ap, _∙_, subst}
@@ -21,12 +20,12 @@ use Rattle.format.specs.Outcome.{Outcome, Outcome.value, Outcome.refusal, _>>=_
 use Rattle.format.specs.Stats.{readHead}
 use Rattle.format.specs.Opening.{Loaded, Table, readBlocks, openBlockwise, openBody, opened, columnIn, tableIn}
 use Rattle.format.specs.Sheets.{underSheet, openedUnder}
-use Rattle.format.proofs.Outcomes.{not-value, value-same, by-step}
+use Rattle.format.proofs.Outcomes.{not-value, value-same}
 use Rattle.format.proofs.Laid.{opened-laid}
-use Rattle.format.proofs.Sheets.{under-two}
 use Rattle.format.proofs.Openings.{OpensBitpacked, OpensLinear, OpensBlockwise, by-opening}
 use Rattle.blockwise_linear.specs.Reader.{firstCursor, blocksFrom, numbersIn, Fillable}
 use Rattle.sheets.specs.Faults.{AllWithin}
+use Rattle.sheets.proofs.SheetNumbers.{accepted}
 use Rattle.u64_based.specs.Opening.{tabled, tableFor, Finds}
 
 -- ---- the code byte
@@ -85,20 +84,12 @@ opened-tabled s room (value a) finds = go (opened s room) refl (finds a refl)
 
 -- ---- under a sheet
 
--- what a sheet accepts, opening finds
-pub accepted : (sheet : ℕ) (s : List ℕ) (room : ℕ) (o : Loaded) → openedUnder sheet s room ≡ value o → opened s room ≡ value o
-unfolding underSheet
-accepted zero s room o e = absurd (not-value e)
-accepted (suc zero) s room o e = e
-accepted (suc (suc zero)) s room o e = under-two s room o e
-accepted (suc (suc (suc sheet))) s room o e = absurd (not-value e)
-
 -- so a column in the answer is what opening finds, and its table is opening's
 pub under-finds : (sheet : ℕ) (s : List ℕ) (room : ℕ) (answer : Outcome (Column × Spelling)) → answer ≡ columnIn (openedUnder sheet s room) → Finds (opened s room) answer
 under-finds sheet s room answer is a e = go (openedUnder sheet s room) refl (sym is ∙ e)
   where
     go : (o : Outcome Loaded) → openedUnder sheet s room ≡ o → columnIn o ≡ value a → columnIn (opened s room) ≡ value a
-    go (value o) found same = rw (accepted sheet s room o found) same
+    go (value o) found same = rw (accepted sheet s (opened s room) o found) same
     go (refusal n also) found same = absurd (not-value same)
 
 pub under-table : (sheet : ℕ) (s : List ℕ) (room : ℕ) (answer : Outcome (Column × Spelling)) → answer ≡ columnIn (openedUnder sheet s room)
@@ -106,7 +97,7 @@ pub under-table : (sheet : ℕ) (s : List ℕ) (room : ℕ) (answer : Outcome (C
 under-table sheet s room answer is = rw is (go (openedUnder sheet s room) refl)
   where
     go : (o : Outcome Loaded) → openedUnder sheet s room ≡ o → tableFor (opened s room) (columnIn o) ≡ tableIn o
-    go (value o) found = rw (accepted sheet s room o found)
+    go (value o) found = rw (accepted sheet s (opened s room) o found)
     go (refusal n also) found = refl
 
 -- an opened column's area lies behind its code byte and ends within the bytes

@@ -25,13 +25,13 @@ use Rattle.format.specs.Packing.{legal, bytesNum}
 use Rattle.format.specs.Stats.{readHead}
 use Rattle.format.specs.Bodies.{blockCount}
 use Rattle.format.specs.Opening.{Loaded, Table, readWidth, readFields, readBlocks, openBitpacked, openLinear, openBlockwise, openBody, opened, columnIn}
-use Rattle.format.specs.Sheets.{strict, underSheet, openedUnder}
+use Rattle.format.specs.Sheets.{underSheet, openedUnder}
 use Rattle.format.specs.Reading.{rowIn, fits, rowFits, placeIn, packedOf, valueIn, rowAt}
 use Rattle.format.specs.Viewing.{viewBlockwise, viewBody, viewed, viewedUnder}
 use Rattle.format.proofs.Outcomes.{not-value, value-same, by-step, by-demand}
 use Rattle.format.proofs.Openings.{bitpackedOf, linearOf, blockwiseOf}
-use Rattle.format.proofs.Sheets.{by-unit}
 use Rattle.sheets.specs.Faults.{AllWithin}
+use Rattle.sheets.proofs.SheetNumbers.{accepted}
 use Rattle.u64_based.proofs.Opens.{opened-within}
 use Rattle.view.specs.Held.{unlessBlockwise, forView}
 
@@ -215,17 +215,6 @@ by-view C (c ∷ s) ofBitpacked ofLinear o e =
         by-demand (leb (h .next + 4) (length (c ∷ s))) 10 [] _ e λ four e.
         by-demand (leb (h .next + bytesNum (drop (length (c ∷ s) - 4) (c ∷ s))) (length (c ∷ s) - 4)) 10 [] _ e λ long e.
         absurd (not-value e)
-
--- what a sheet accepts, the opening found
-accepted : (sheet : ℕ) (s : List ℕ) (v : Outcome Loaded) (o : Loaded) → underSheet sheet s v ≡ value o → v ≡ value o
-unfolding underSheet
-accepted zero s v o e = absurd (not-value e)
-accepted (suc zero) s v o e = e
-accepted (suc (suc zero)) s v o e =
-    by-step v _ e λ l is e.
-    by-unit (strict s (l .column) (l .spelling)) (value l) e λ met same.
-    is ∙ same
-accepted (suc (suc (suc sheet))) s v o e = absurd (not-value e)
 
 -- its area lies behind its code byte and ends within the bytes
 pub viewed-within : (s : List ℕ) (a : Outcome (Column × Spelling)) → a ≡ columnIn (viewed s) → AllWithin a s

@@ -22,7 +22,7 @@ forView (refusal number also) = pick (eqb number 11) (refusal 20 []) (refusal nu
 
 -- a column of no rows
 abbrev pub noColumn : Column
-noColumn = record { minimum = 0; gcd = 0; count = 0; rows = 0; start = 0; size = 0; codec = Bitpacked }
+noColumn = record { minimum = 0; gcd = 0; count = 0; rows = 0; start = 0; size = 0; window = record { first = 0; rows = 0 }; codec = Bitpacked }
 
 -- the column that is left to a view
 abbrev pub columnOr : Outcome (Column × Spelling) → Column

@@ -10,11 +10,12 @@ ghost use Rattle.view.specs.Held.{forView, columnOr};
 use format::Block;
 use format::Codec;
 use format::Column;
-use format::ColumnRow;
 use format::Line;
 use format::Opened;
 use format::Refusal;
 use format::RowRead;
+use format::Window;
+use format::WindowRow;
 
 // What opening with no room for a block answers, for a view. A Blockwise column lacks room, or it opens because it has no rows; a view takes neither.
 fn for_view(answer: Opened) -> Opened
@@ -51,6 +52,7 @@ fn column_of(answer: Opened) -> Column
             rows: 0,
             start: 0,
             size: 0,
+            window: Window { first: 0, rows: 0 },
             codec: Codec::Bitpacked,
         },
     }
@@ -77,7 +79,7 @@ pub fn row_of(column: Column, bytes: &[u8], row: u32) -> RowRead
         bits: 0,
         start: 0,
     };
-    reading::reader::row_in(column, 0, none, bytes, ColumnRow(row))
+    reading::reader::row_in(column, 0, none, bytes, WindowRow(row))
 }
 
 // A column's bytes and its opened numbers.
@@ -111,9 +113,9 @@ pub fn row<'a>(view: View<'a>, row: u32) -> RowRead
     row_of(view.column, view.bytes, row)
 }
 
-// How many rows the view has.
+// How many rows the view has: those of its column's window, which opening sets to the whole column.
 pub fn rows<'a>(view: View<'a>) -> u32
-    ensures { λ r. ⌜ r ≡ view .entry .column .rows ⌝ }
+    ensures { λ r. ⌜ r ≡ view .entry .column .window .rows ⌝ }
 {
-    view.column.rows
+    view.column.window.rows
 }

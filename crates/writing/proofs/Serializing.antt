@@ -15,9 +15,8 @@ use Rattle.format.specs.declared.Codec.{Codec}
 use Rattle.format.specs.declared.ColumnStats.{ColumnStats}
 use Rattle.format.specs.declared.Kind.the-variants.{U64}
 use Rattle.format.specs.declared.Refusal.the-variants.{TooManyValues, UnknownCodec, NoCodecApplies, OutputShort}
-use Rattle.format.specs.declared.Written.{Written}
 use Rattle.format.specs.declared.Written.the-variants.{Length, Refused}
-use Rattle.format.specs.Outcome.{Wrote}
+use Rattle.format.specs.Outcome.{Outcome, Wrote}
 use Rattle.format.specs.Stats.{statsOf}
 use Rattle.format.specs.Listing.{codeOf}
 use Rattle.format.specs.Bodies.{columnBy}
@@ -31,7 +30,7 @@ use Rattle.writing.specs.declared.choice.Place.{Place}
 use Rattle.writing.specs.declared.choice.Place.the-variants.{At, Nowhere}
 use Rattle.writing.specs.Choice.{placeMeaning, bestMeaning, AptCodec, Stands}
 use Rattle.writing.specs.Writing.{lent}
-use Rattle.format.specs.Calls.{SerializedAs}
+use Rattle.format.specs.Calls.{StoresAs, SerializedAs}
 
 -- an output that is too short
 pub too-short : (column old : List ℕ) (needed : ℕ) → needed ≡ length column → length old < needed
@@ -77,14 +76,14 @@ module _ (vs cs old : List ℕ) where
           let chose : chosen (λ c. sizeOf c (statsOf vs) vs) cs ≡ none = choice ∙ ap bestMeaning is in
           record { answer = rw (lt-ltb (length vs) (2 ^ 32) few, told placeMeaning sought nowhere, chose); list = rw (lt-ltb (length vs) (2 ^ 32) few, told placeMeaning sought nowhere, chose) }
 
-      pub written-by : {codec : Codec} {size : ℕ} {r : Written} {new : List ℕ} → b ≡ Least codec size
-          → SerializedAs (lent (columnBy (codeOf codec) vs) (length old)) r old new → SerializedAs (written vs cs (length old)) r old new
+      pub written-by : {codec : Codec} {size : ℕ} {said : Outcome ℕ} {new : List ℕ} → b ≡ Least codec size
+          → StoresAs (lent (columnBy (codeOf codec) vs) (length old)) said old new → StoresAs (written vs cs (length old)) said old new
       unfolding written
       written-by {codec} {size} is left =
           let chose : chosen (λ c. sizeOf c (statsOf vs) vs) cs ≡ some (record { codec = codeOf codec; size = size }) = choice ∙ ap bestMeaning is in
           rw (lt-ltb (length vs) (2 ^ 32) few, told placeMeaning sought nowhere, chose) left
 
 -- numbers are stored as they are
-pub numbers-written : (vs cs : List ℕ) (room : ℕ) {r : Written} {before after : List ℕ}
-    → SerializedAs (written (storedAs U64 vs) cs room) r before after → SerializedAs (written vs cs room) r before after
-numbers-written vs cs room {r} {before} {after} = subst (λ (xs : List ℕ). SerializedAs (written xs cs room) r before after) (stored-numbers vs)
+pub numbers-written : (vs cs : List ℕ) (room : ℕ) {said : Outcome ℕ} {before after : List ℕ}
+    → StoresAs (written (storedAs U64 vs) cs room) said before after → StoresAs (written vs cs room) said before after
+numbers-written vs cs room {said} {before} {after} = subst (λ (xs : List ℕ). StoresAs (written xs cs room) said before after) (stored-numbers vs)

@@ -73,7 +73,7 @@ unsafe extern "C" {
     ) -> usize;
 
     fn hulemartob_replay(
-        column: *const [u64; 10],
+        column: *const [u64; 12],
         table: *const u64,
         table_len: usize,
         bytes: *const u8,
@@ -213,7 +213,7 @@ pub(crate) fn run(column: &[u64; 12], table: &[u64], bytes: &[u8], first: u32, o
 }
 
 /// The index of the first record that differs, 2^64 - 1 where all agree, and how many were run.
-pub(crate) fn replay(column: &[u64; 10], table: &[u64], bytes: &[u8], recording: &[u8]) -> Result<[u64; 2], Refusal> {
+pub(crate) fn replay(column: &[u64; 12], table: &[u64], bytes: &[u8], recording: &[u8]) -> Result<[u64; 2], Refusal> {
     let (mut report, mut refusal) = ([0; 2], [0; 2]);
     // SAFETY: see the top of this file.
     unsafe {

@@ -126,6 +126,9 @@ pub fn open(bytes: &[u8]) -> Result<Column<'_>, Refusal> {
 }
 
 /// An opened column, seen through a window: its bytes, its twelve numbers, and its block table, which its windows share. Opening shows all rows.
+///
+/// It keeps together what a call in C is handed piece by piece. For tools in Rattle the crate `view` does the same, for columns of
+/// [`Codec::Bitpacked`] and [`Codec::Linear`] alone, which have no table; each of its answers is that of the call here.
 #[derive(Clone, Debug, PartialEq, Eq)]
 pub struct Column<'a> {
     bytes: &'a [u8],

@@ -69,7 +69,7 @@ fn refused_rows_differ() {
 
 #[test]
 fn a_column_of_no_parts_comes_first() {
-    let column = Column::from_parts(&BITPACKED, [3, 0, 1, 0, 0, 0, 0, 0, 0, 0], vec![]);
+    let column = Column::from_parts(&BITPACKED, [3, 0, 1, 0, 0, 0, 0, 0, 0, 0, 0, 0], vec![]);
     assert_eq!(column.replay(&[]), Err(Refusal { number: 13, value: 0 }));
 }
 

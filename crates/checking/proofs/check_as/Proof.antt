@@ -9,11 +9,10 @@ use lib.ListN.{length}
 use Rattle.format.specs.Reading.{rowAt}
 use Rattle.format.specs.Typed.{storedAs}
 use Rattle.format.proofs.StoredLists.{stored-length}
-use Rattle.reading.specs.Chunks.{chunkSize}
 use Rattle.reading.proofs.Stretches.{stretch-for}
 use Rattle.checking.specs.Walks.{left, Walking}
 use Rattle.checking.proofs.Steps.{stretch-kept, walking-starts, walking-step, step-less, step-room}
-use Rattle.checking.proofs.Verdicts.{told-opened, rows-few, maximum-fits, refused-unopened, counts-differ, walked-verdict}
+use Rattle.checking.proofs.Verdicts.{told-opened, rows-few, maximum-fits, refused-unopened, counts-differ, walked-verdict, whole-chunk}
 use Rattle.checking.proofs.check_as.Statement.{statement}
 use Rattle.checking.proofs.check_as.Tie as tie
 
@@ -72,7 +71,7 @@ step-requires c κs =
     let a = o .before .before .before .before .before .args in
     let long = sym (stored-length (a .kind) (now (a .values))) in
     let few : length (now (a .values)) < 2 ^ 32 = omega (arith, rows-few _ _ _ _ _ _ (told-opened (t .before .opened .given .1) (o .open-under .ensures)), e .if1 .left) in
-    step-room _ (l .loop .inv .0) (length (now (a .values))) long few (l .loop .inv .1) (stretch-for (ap (chunkSize (l .loop .w .at)) (e .if1 .left ∙ long)) (k .chunk .ensures))
+    step-room _ (l .loop .inv .0) (length (now (a .values))) long few (l .loop .inv .1) (stretch-for (whole-chunk _ _ _ _ _ _ (told-opened (t .before .opened .given .1) (o .open-under .ensures)) (l .loop .w .at) _ (e .if1 .left ∙ long)) (k .chunk .ensures))
 
 loop-less : tie.Need-loop-less Inv-loop μ-loop
 loop-less c =
@@ -80,8 +79,12 @@ loop-less c =
     let i = k .before .before .before in
     let l = i .before in
     let e = l .before in
-    let a = e .before .before .before .before .before .before .before .before .before .before .before .before .args in
-    let chunk = stretch-for (ap (chunkSize (l .loop .w .at)) (e .if1 .left ∙ sym (stored-length (a .kind) (now (a .values))))) (k .chunk .ensures) in
+    let t = e .before .before in
+    let o = t .before .before .before .before .before in
+    let a = o .before .before .before .before .before .args in
+    let size =
+    whole-chunk _ _ _ _ _ _ (told-opened (t .before .opened .given .1) (o .open-under .ensures)) (l .loop .w .at) _ (e .if1 .left ∙ sym (stored-length (a .kind) (now (a .values)))) in
+    let chunk = stretch-for size (k .chunk .ensures) in
     step-less _ (l .loop .inv .0) (l .loop .inv .1) chunk (c .step .ensures) (i .loop-test .taken)
 
 loop-again : tie.Need-loop-again Inv-loop μ-loop
@@ -90,8 +93,12 @@ loop-again c =
     let i = k .before .before .before in
     let l = i .before in
     let e = l .before in
-    let a = e .before .before .before .before .before .before .before .before .before .before .before .before .args in
-    let chunk = stretch-for (ap (chunkSize (l .loop .w .at)) (e .if1 .left ∙ sym (stored-length (a .kind) (now (a .values))))) (k .chunk .ensures) in
+    let t = e .before .before in
+    let o = t .before .before .before .before .before in
+    let a = o .before .before .before .before .before .args in
+    let size =
+    whole-chunk _ _ _ _ _ _ (told-opened (t .before .opened .given .1) (o .open-under .ensures)) (l .loop .w .at) _ (e .if1 .left ∙ sym (stored-length (a .kind) (now (a .values)))) in
+    let chunk = stretch-for size (k .chunk .ensures) in
     (walking-step _ (l .loop .inv .0) (l .loop .inv .1) chunk (c .step .ensures), stretch-kept (k .chunk .ensures) ∙ l .loop .inv .1)
 
 answer-requires : tie.Need-answer-requires Inv-loop μ-loop

@@ -1,5 +1,6 @@
 -- `column_c::column_numbers` meets its contract: the codec's own numbers are three.
 -- Assumes nothing.
+use mathlib.Core.List.{[], _∷_}
 use Rattle.column_c.proofs.Columns.{own-three}
 use borrow.Author.Needs.{needs}
 use Rattle.column_c.proofs.column_numbers.Statement.{statement}
@@ -23,8 +24,16 @@ array-read-t16 c = search needs
 array-read-t19 : tie.Need-array-read-t19
 array-read-t19 c = search needs
 
+cast-t20 : tie.Need-cast-t20
+cast-t20 c = search needs
+
+cast-t21 : tie.Need-cast-t21
+cast-t21 c = search needs
+
 returns : tie.Need-returns
-returns c = rw (c .before .codec-numbers .ensures) (cc (own-three (c .before .before .args .column .codec)))
+returns c =
+    let col = c .before .before .before .before .args .column in
+    rw (c .before .before .before .codec-numbers .ensures) (cc (own-three (col .codec) (col .window .first ∷ col .window .rows ∷ [])))
 
 pub column-numbers-spec : {M : Type 1} → statement M
 column-numbers-spec =
@@ -36,4 +45,6 @@ column-numbers-spec =
     array-read-t13
     array-read-t16
     array-read-t19
+    cast-t20
+    cast-t21
     returns)

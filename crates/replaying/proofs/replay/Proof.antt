@@ -10,7 +10,7 @@ use Rattle.replaying.proofs.replay.Statement.{statement}
 use Rattle.replaying.proofs.replay.Tie as tie
 
 abbrev Inv-loop : tie.InvT-loop
-Inv-loop column table bytes recording blocks w₀ w = Replaying (rowAt column table bytes) (column .rows) recording w
+Inv-loop column table bytes recording blocks w₀ w = Replaying (rowAt column table bytes) (column .window .rows) recording w
 
 abbrev μ-loop : tie.MeasureT-loop
 μ-loop column table bytes recording blocks w₀ w = left w

@@ -23,8 +23,8 @@ last-bits-requires c κs = search needs
 overfull-requires : tie.Need-overfull-requires
 overfull-requires c κs = search needs
 
-between-requires : tie.Need-between-requires
-between-requires c κs = search needs
+unclaimed-requires : tie.Need-unclaimed-requires
+unclaimed-requires c κs = search needs
 
 longer-requires : tie.Need-longer-requires
 longer-requires c κs = search needs
@@ -47,7 +47,7 @@ returns c =
     ∙ ap₂ lower (c .before .before .before .longer .ensures)
     (c .before .lower2 .ensures
     ∙ ap₂ lower (c .before .before .before .before .before .overfull .ensures ∙ ap (λ (n : ℕ). overfull bytes (end - 1) n) (c .before .before .before .before .before .before .last-bits .ensures))
-    (c .before .before .lower .ensures ∙ ap (λ (gap : Option ℕ). lower gap (faultMeaning (a .later))) (c .before .before .before .before .between .ensures)))
+    (c .before .before .lower .ensures ∙ ap (λ (gap : Option ℕ). lower gap (faultMeaning (a .later))) (c .before .before .before .before .unclaimed .ensures)))
 
 pub offending-spec : {M : Type 1} → statement M
 offending-spec =
@@ -57,7 +57,7 @@ offending-spec =
     sub-overfull
     last-bits-requires
     overfull-requires
-    between-requires
+    unclaimed-requires
     longer-requires
     lower-requires
     lower-requires-2

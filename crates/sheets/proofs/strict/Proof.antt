@@ -33,8 +33,8 @@ footer-last-requires c κs = search needs
 enum-known-l : tie.Need-enum-known-l
 enum-known-l c = search needs
 
-between-requires : tie.Need-between-requires
-between-requires c κs = search needs
+unclaimed-requires : tie.Need-unclaimed-requires
+unclaimed-requires c κs = search needs
 
 judged-requires-3 : tie.Need-judged-requires-3
 judged-requires-3 c κs = search needs
@@ -57,7 +57,7 @@ returns-3 c =
     let f = c .before .before .before .before .before in
     let a = f .before .before .before .before .args in
     c .judged3 .ensures
-    ∙ strict-blockwise (now (a .bytes)) (a .column) (a .spelling) _ _ (f .before .enum-told2 .given .1) (told lastMeaning (f .footer-last .ensures) (c .before .before .before .l .given .1)) (c .before .between .ensures)
+    ∙ strict-blockwise (now (a .bytes)) (a .column) (a .spelling) _ _ (f .before .enum-told2 .given .1) (told lastMeaning (f .footer-last .ensures) (c .before .before .before .l .given .1)) (c .before .unclaimed .ensures)
 
 returns-4 : tie.Need-returns-4
 returns-4 c =
@@ -77,7 +77,7 @@ strict-spec =
     enum-told-2
     footer-last-requires
     enum-known-l
-    between-requires
+    unclaimed-requires
     judged-requires-3
     enum-known-r
     returns

@@ -14,7 +14,7 @@ enum-told c = search needs
 
 -- src/lib.rt:42:1
 returns : tie.Need-returns
-returns c = search needs
+returns c = rw (c .before .answer .given .1)
 
 -- src/lib.rt:42:1
 returns-2 : tie.Need-returns-2

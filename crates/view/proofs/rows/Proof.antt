@@ -1,4 +1,4 @@
--- `view::rows` meets its contract: a walk of its MIR, by hand. A number is read out of the column that the view holds.
+-- `view::rows` meets its contract: a walk of its MIR, by hand. A number is read out of the window of the column that the view holds.
 -- Assumes nothing.
 use Rattle.walking.proofs.Walk.{refl, _<_, _^_, [], _∷_, URA, w32, Val, vint, SProp, ent, emp, via, fst∗, Lft, Share, ftrue, flft, Memory, Routine, Heap, Calls, Loops, WpFn, Atoms, Fun, givenOf, tables, tablesOf, Lfts, RattleType, namedLft}
 use Rattle.walking.proofs.Walk.{Given, ‵, _⊛_, _$_, _∵_, !, qed, by, move, suffices, frame, done, whole, sub, look-in, look, init, forget, stop, fld, from, load, of-opd, assigns, returns, enter, alloc1, alloc0, params1, pass1, pass0, free1, free0, WpFn-mono, owns, onEntry, tripleOf, entered, says, Stays, stay-none, walkOf, goes-none, Walks, ends-at, walked, walk-meets, yes}
@@ -9,6 +9,8 @@ use Rattle.view.specs.declared.View.{View}
 use Rattle.view.proofs.View as Vw
 use Rattle.format.proofs.Column as Col
 use Rattle.format.proofs.Column.Laws as Col′
+use Rattle.format.proofs.Window as Wn
+use Rattle.format.proofs.Window.Laws as Wn′
 use Rattle.view.proofs.rows.Key.{name as #view·rows}
 use Rattle.view.proofs.rows as f
 use Rattle.view.proofs.rows.Statement as stated
@@ -27,22 +29,23 @@ module _ {M : Type 1} (𝓤 : URA M) (H : Heap 𝓤) (A : Atoms 𝓤) (W : Given
   abbrev Post : Val → SProp 𝓤
   Post = walkOf 𝓤 H A f.ended stayed (f.clauses 𝓤 H A mem run) .post (((κ, tt), (q, tt), tt, (d, tt), (mach ∷ [], tt)), tt)
 
-  exits : d .column .rows < 2 ^ 32 → ent 𝓤 (onEntry 𝓤 H A f.signature (κ, tt) (q, tt) (d, tt) (mach ∷ [], tt)) (Post (vint w32 (d .column .rows)))
+  exits : d .column .window .rows < 2 ^ 32 → ent 𝓤 (onEntry 𝓤 H A f.signature (κ, tt) (q, tt) (d, tt) (mach ∷ [], tt)) (Post (vint w32 (d .column .window .rows)))
   exits g =
       qed W ((‵ (flft κ q) ⊛ ‵ ftrue) ∷ ‵ (owns (B (κ, tt) ∷ []) (d, tt) (mach ∷ [], tt)) ∷ []) ∵
-      suffices ! _ (ends-at 𝓤 H A f.ended stayed (f.clauses 𝓤 H A mem run) W (((κ, tt), (q, tt), tt, (d, tt), (mach ∷ [], tt)), tt) (vint w32 (d .column .rows)) (d .column .rows) (tt, tt) (tt, tt)) $ says ! refl $
-      frame ! $ frame ! $ have ! (number w32) (d .column .rows) (refl, g) $ done !
+      suffices ! _ (ends-at 𝓤 H A f.ended stayed (f.clauses 𝓤 H A mem run) W (((κ, tt), (q, tt), tt, (d, tt), (mach ∷ [], tt)), tt) (vint w32 (d .column .window .rows)) (d .column .window .rows) (tt, tt) (tt, tt)) $ says ! refl $
+      frame ! $ frame ! $ have ! (number w32) (d .column .window .rows) (refl, g) $ done !
 
   module _ (C : Calls 𝓤 H) (Λ : Loops 𝓤 H) where
     walk : Ty.VFits (namedLft 1 0 tt (κ, tt)) d → ent 𝓤 (onEntry 𝓤 H A f.signature (κ, tt) (q, tt) (d, tt) (mach ∷ [], tt)) (WpFn 𝓤 H C Λ code.function (mach ∷ []) Post)
     walk is =
         qed W ((‵ (flft κ q) ⊛ ‵ ftrue) ∷ ‵ (owns (B (κ, tt) ∷ []) (d, tt) (mach ∷ [], tt)) ∷ []) ∵ enter ! C Λ code.function (mach ∷ []) _ $
         alloc1 ! (λ l₀. alloc1 ! (λ l₁. alloc0 ! $ params1 ! $ pass1 ! (init ! 0 refl (LL.lawful (Ty.view (namedLft 1 0 tt (κ, tt))) (Ty.vlaws (namedLft 1 0 tt (κ, tt))) 𝓤 H A W .typed d _ is .0)) $ pass0 ! $
-        assigns ! (of-opd ! (load ! (from ! (fld ! refl (fld ! refl (stop !)))) (look-in ! 0 (sub ! 3 refl (sub ! 1 refl (whole !)))))) (from ! (stop !)) (init ! 2 refl (tt, record { fits = rows-fit })) $
+        assigns ! (of-opd ! (load ! (from ! (fld ! refl (fld ! refl (fld ! refl (stop !))))) (look-in ! 0 (sub ! 1 refl (sub ! 6 refl (sub ! 1 refl (whole !))))))) (from ! (stop !)) (init ! 2 refl (tt, record { fits = rows-fit })) $
         returns ! (look ! 2 refl) $ forget ! 0 refl $ forget ! 2 refl $ move ! (2 ∷ 3 ∷ []) $ free1 ! $ free1 ! $ free0 ! $ by ! (exits rows-fit)))
       where
-        rows-fit : d .column .rows < 2 ^ 32
-        rows-fit = LL.owed Col.the-type Col′.the-laws (d .column) _ (Ty.column-fits (namedLft 1 0 tt (κ, tt)) d is) .1 .1 .1 .0 .1
+        rows-fit : d .column .window .rows < 2 ^ 32
+        rows-fit =
+            LL.owed Wn.the-type Wn′.the-laws (d .column .window) _ (LL.owed Col.the-type Col′.the-laws (d .column) _ (Ty.column-fits (namedLft 1 0 tt (κ, tt)) d is) .1 .1 .1 .1 .1 .1 .0) .1 .0 .1
 
 module _ {M : Type 1} (𝓤 : URA M) (H : Heap 𝓤) (A : Atoms 𝓤) (W : Given 𝓤 H A) (mem : Memory → SProp 𝓤) (run : Routine → Fun 𝓤) where
   walks : (C : Calls 𝓤 H) (Λ : Loops 𝓤 H) → Walks 𝓤 H A f.ended stayed (WpFn 𝓤 H C Λ code.function) (f.clauses 𝓤 H A mem run)

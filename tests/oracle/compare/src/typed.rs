@@ -119,7 +119,7 @@ fn compare_mapping<T: Typed>(tally: &mut Tally, word: u64) {
     let value = T::of(word);
     let stored = value.theirs().to_u64();
     let ours = column_stats_as(&[value]).map(|stats| stats.minimum);
-    let column = Column::from_parts(&[], [0, word, 1, 0, 1, 0, 0, 0, 0, 0], vec![]);
+    let column = Column::from_parts(&[], [0, word, 1, 0, 1, 0, 0, 0, 0, 0, 0, 1], vec![]);
     let read = column.row_as::<T>(0).map(T::bits);
     if ours == Ok(stored) && read == Ok(T::their_bits(T::Theirs::from_u64(word))) {
         tally.alike(format!("values mapped both ways, {}", T::NAME), 1);

@@ -17,7 +17,7 @@ use Rattle.column_c.proofs.replays.hulemartob_replay.Tie as tie
 abbrev reports : tie.Start → Column → Outcome Report
 reports c col =
     let a = c .args in
-    replayed (rowAt col (now (a .table)) (now (a .bytes))) (col .rows) (now (a .recording))
+    replayed (rowAt col (now (a .table)) (now (a .bytes))) (col .window .rows) (now (a .recording))
 
 column-from-requires : tie.Need-column-from-requires
 column-from-requires c κs = search needs

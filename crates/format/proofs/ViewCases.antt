@@ -47,6 +47,6 @@ viewCases =
     ∷ ((0x02 ∷ 0x80 ∷ 0x81 ∷ 0x80 ∷ 0x80 ∷ 9 ∷ 0 ∷ 0 ∷ 0 ∷ 0 ∷ []) under 2 gives refusal 20 [])
     ∷ []
 
-pub views-hold : map (λ (c : ViewCase). viewedUnder (c .sheet) (c .bytes) >>= (λ (o : Loaded). value (o .column .rows))) viewCases ≡ map (λ (c : ViewCase). c .said) viewCases
+pub views-hold : map (λ (c : ViewCase). viewedUnder (c .sheet) (c .bytes) >>= (λ (o : Loaded). value (o .column .window .rows))) viewCases ≡ map (λ (c : ViewCase). c .said) viewCases
 unfolding underSheet strict ending spell spellIn viewed viewBody viewBlockwise openBitpacked openLinear readHead readVarint scan readFields readWidth bytesNum width bitLength bitsIn
 views-hold = refl
