@@ -50,7 +50,7 @@ pub record JudgedAs (text s file : List ℕ) (n : ℕ) (before after old new : L
 
 -- ---- on the way
 
--- the verdict with a table of 2048 blocks, where a program's limit on rows comes in place of 11 and of the counts
+-- a reason found with a table of 2048 blocks: a program's limit on rows comes in place of 11, and of the counts of a column with more rows
 abbrev pub limitedReason : Reason → Verdict
 limitedReason (unopened number also) = pick (eqb number 11) (failed (unopened 16 [])) (failed (unopened number also))
 limitedReason (counts column list) = or (leb column 1048576) (unopened 16 []) (failed (counts column list))
@@ -59,6 +59,7 @@ limitedReason minimum = failed minimum
 limitedReason gcd = failed gcd
 limitedReason maximum = failed maximum
 
+-- the same of any verdict
 abbrev pub limited : Verdict → Verdict
 limited passed = passed
 limited (failed reason) = limitedReason reason
