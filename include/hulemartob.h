@@ -1,5 +1,6 @@
 /* Columns of 64-bit numbers in the format of tantivy-columnar 0.27.0 (u64_based): statistics, writing, opening, reading, looking up.
- * Recorded lookups follow, and columns of signed numbers, dates, bools and floats are the second half of this file.
+ * Recorded lookups follow, and columns of signed numbers, dates, bools and floats are the second half of this file, with the check of a
+ * column against a list of values of any kind.
  *
  * Link with libcolumn_c.a, x86-64 code that `rt staticlib column_c` writes to target/staticlib. It needs no other library.
  *
@@ -165,6 +166,32 @@ uint64_t hulemartob_f64_bits_of(uint64_t stored);
 void hulemartob_i64_range(int64_t low, int64_t high, uint64_t range[2]);
 void hulemartob_bool_range(bool low, bool high, uint64_t range[2]);
 void hulemartob_f64_range(uint64_t low, uint64_t high, uint64_t range[2]);
+
+/* ---- columns from other writers
+ *
+ *    verdict[0]                 the column                                                  verdict[1], verdict[2]
+ *    HULEMARTOB_PASSED          holds the list                                              0, 0
+ *    HULEMARTOB_UNOPENED        does not open under the sheet                               the refusal's number and its value, by the table above
+ *    HULEMARTOB_COUNTS          has another number of rows                                  the column's rows, the list's length
+ *    HULEMARTOB_UNEQUAL         has a row that does not read as its value, or is refused    the first such row, 0
+ *    HULEMARTOB_MINIMUM         states another minimum than the list's                      0, 0
+ *    HULEMARTOB_GCD             another gcd                                                 0, 0
+ *    HULEMARTOB_MAXIMUM         another maximum: minimum + gcd * count                      0, 0
+ */
+#define HULEMARTOB_PASSED 0u
+#define HULEMARTOB_UNOPENED 1u
+#define HULEMARTOB_COUNTS 2u
+#define HULEMARTOB_UNEQUAL 3u
+#define HULEMARTOB_MINIMUM 4u
+#define HULEMARTOB_GCD 5u
+#define HULEMARTOB_MAXIMUM 6u
+
+/* Opens the column that `bytes` hold under an acceptance sheet and checks it against a list of values of a kind, by the numbers that these are stored
+ * as. `verdict` is now HULEMARTOB_PASSED, or the first reason why not, tested in the order of the table. A column that does not open is a
+ * verdict and no refusal: refused 13 alone, where the number is no kind. Once the column is opened, its blocks are the first numbers of
+ * `table`, whatever the verdict; the rest of the table is unchanged. */
+void hulemartob_check(uint32_t kind, uint32_t sheet, const uint8_t *bytes, size_t bytes_len, const uint64_t *values, size_t values_len,
+                      uint64_t *table, size_t table_len, uint64_t verdict[3], uint64_t refusal[2]);
 
 /* The same with C's types. These few lines are C: what they call is proved, they are not. Results and refusals are those of the function
  * that they are named after; a row's value is 0, or false, on refusal.

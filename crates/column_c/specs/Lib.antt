@@ -1,3 +1,4 @@
+pub mod Checking
 pub mod Numbers
 pub mod Replaying
 pub mod Typed

@@ -20,7 +20,7 @@ pub enum Known {
 }
 
 // The kind of a number, if it is one.
-fn kind_from(number: u32) -> Known
+pub(crate) fn kind_from(number: u32) -> Known
     ensures { λ r. ⌜ knownMeaning r ≡ kindFrom number ⌝ }
 {
     match number {

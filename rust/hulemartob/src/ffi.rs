@@ -97,6 +97,19 @@ unsafe extern "C" {
         refusal: *mut [u64; 2],
     ) -> usize;
 
+    fn hulemartob_check(
+        kind: u32,
+        sheet: u32,
+        bytes: *const u8,
+        bytes_len: usize,
+        values: *const u64,
+        values_len: usize,
+        table: *mut u64,
+        table_len: usize,
+        verdict: *mut [u64; 3],
+        refusal: *mut [u64; 2],
+    );
+
     safe fn hulemartob_i64_of(stored: u64) -> i64;
 
     safe fn hulemartob_bool_of(stored: u64) -> bool;
@@ -293,6 +306,27 @@ pub(crate) fn serialize_as(kind: Kind, values: &[u64], codecs: &[u8], out: &mut 
         )
     };
     answer(refusal, length)
+}
+
+/// The three numbers of the verdict on a column under a sheet, for a list of values of a kind. No kind that there is makes the call refuse.
+pub(crate) fn check(kind: Kind, sheet: u32, bytes: &[u8], values: &[u64], table: &mut [u64]) -> [u64; 3] {
+    let (mut verdict, mut refusal) = ([0; 3], [0; 2]);
+    // SAFETY: see the top of this file.
+    unsafe {
+        hulemartob_check(
+            kind as u32,
+            sheet,
+            bytes.as_ptr(),
+            bytes.len(),
+            values.as_ptr(),
+            values.len(),
+            table.as_mut_ptr(),
+            table.len(),
+            &mut verdict,
+            &mut refusal,
+        )
+    };
+    verdict
 }
 
 /// What a stored number reads as: a signed number.

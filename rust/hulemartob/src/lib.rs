@@ -26,12 +26,15 @@
 //!
 //! Lookups can be recorded ([`RecordingBuilder`], [`Recording`]) and rerun over a column: [`Column::replay`].
 //!
+//! A column from another writer can be checked against the list of values that it is to hold: [`check`].
+//!
 //! The code here passes numbers on to the static library of the crate `column_c`, and makes room for what it answers; nothing of the
 //! format is decided in Rust. The library is compiled for x86-64.
 
 #[cfg(not(all(target_arch = "x86_64", target_pointer_width = "64")))]
 compile_error!("libcolumn_c.a is x86-64 code");
 
+mod checks;
 mod ffi;
 mod recording;
 mod refusal;
@@ -41,6 +44,7 @@ use std::iter::FusedIterator;
 use std::ops::{Range, RangeInclusive};
 use std::sync::Arc;
 
+pub use checks::{Mismatch, check};
 pub use recording::{Recorded, Recording, RecordingBuilder, Replay};
 pub use refusal::Refusal;
 pub use typed::{

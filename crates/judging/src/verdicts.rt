@@ -1,0 +1,51 @@
+// A check within a program's limits.
+ghost use mathlib.Core.Path.{_≡_};
+ghost use Prim.Native.Nat.{_≤_};
+ghost use lib.ListN.{length, take};
+ghost use Rattle.format.specs.Checking.{checked};
+ghost use Rattle.format.specs.Refusals.{checkedMeaning};
+ghost use Rattle.judging.specs.Verdicts.{openedHereUnder, limited};
+use format::Checked;
+use format::Refusal;
+
+// The most bytes and rows of a column.
+const BYTES_MAX: usize = 65536;
+
+const ROWS_MAX: u32 = 1048576;
+
+// A verdict within the limit on rows: a column of more is refused 16, be it that the table has no room for its blocks or that no list is as long.
+fn within_rows(checked: Checked) -> Checked
+    ensures { λ r. ⌜ checkedMeaning r ≡ limited (checkedMeaning checked) ⌝ }
+{
+    match checked {
+        Checked::Unopened(refusal) => {
+            if refusal.number() == 11 {
+                return Checked::Unopened(Refusal::OverLimit);
+            }
+        }
+        Checked::Counts { column, list: _ } => {
+            if ROWS_MAX < column {
+                return Checked::Unopened(Refusal::OverLimit);
+            }
+        }
+        Checked::Passed => {}
+        Checked::Unequal { row: _ } => {}
+        Checked::Minimum => {}
+        Checked::Gcd => {}
+        Checked::Maximum => {}
+    }
+    checked
+}
+
+// Internal: asks for so many values in the list, and for no more than the limit on rows. Checks a column against them. The block table is this function's own.
+pub(crate) fn check_front(sheet: u32, bytes: &[u8], values: &[u64], n: usize) -> Checked
+    requires { ⌜ (n ≤ length (now values)) × (n ≤ 1048576) ⌝ }
+    ensures { λ r. ⌜ checkedMeaning r ≡ checked (openedHereUnder sheet (now (bytes .entry))) (now (bytes .entry)) (take n (now (values .entry))) ⌝ }
+{
+    if BYTES_MAX < bytes.len() {
+        return Checked::Unopened(Refusal::OverLimit);
+    }
+    let mut table = [0u64; 8192];
+    let checked = checking::check(sheet, bytes, &values[..n], &mut table);
+    within_rows(checked)
+}
