@@ -1,0 +1,6 @@
+-- Laws that the functions' proofs cite; the head of each file lists what it offers.
+
+-- the table
+pub mod Tables
+-- the data of the walks by hand
+pub mod Types

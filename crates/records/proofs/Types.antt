@@ -1,0 +1,42 @@
+-- The data of the walks by hand, and where a block of a table lies.
+--     column-rows                   a column's rows are below 2^32
+--     place-fits, place-block       the bytes before a block fit a usize, and are 32 a block
+-- Assumes nothing.
+use mathlib.Core.Path.{_≡_}
+use Prim.Native.Nat.{ℕ, _+_, _*_, _<_, _^_}
+use native.Mathlib.Nat.{lt-trans, mul-lt-mul-of-pos-right}
+use native.Mathlib.Omega.{arith}
+use denote.Index.{place, place-is}
+use denote.Slice.{Room}
+use denote.Struct.Laws as LL
+use Rattle.walking.proofs.Data.{Data, struct, enum, vals, Fits}
+use Rattle.format.specs.declared.Column.{Column}
+use Rattle.format.proofs.Block as B
+use Rattle.format.proofs.Block.Laws as B′
+use Rattle.format.proofs.Column as C
+use Rattle.format.proofs.Column.Laws as C′
+use Rattle.format.proofs.WindowRow as N
+use Rattle.format.proofs.WindowRow.Laws as N′
+use Rattle.format.proofs.RowRead as A
+use Rattle.format.proofs.RowRead.Laws as A′
+
+abbrev pub block : Data
+block = struct B.the-type B′.the-laws B′.the-plain
+
+abbrev pub column : Data
+column = struct C.the-type C′.the-laws C′.the-plain
+
+abbrev pub windowRow : Data
+windowRow = struct N.the-type N′.the-laws N′.the-plain
+
+abbrev pub rowRead : Data
+rowRead = enum A.the-type A′.the-laws tt A′.the-plain
+
+pub column-rows : (c : Column) → Fits column c → c .rows < 2 ^ 32
+column-rows c is = LL.owed C.the-type C′.the-laws c (vals column c) is .1 .1 .1 .0 .1
+
+pub place-fits : (n k : ℕ) → Room (block .row) n → k < n → k * 32 < 2 ^ 64
+place-fits n k room l = lt-trans (mul-lt-mul-of-pos-right {m = k} {n = n} {k = 32} l (omega arith)) (lt-trans (room .1) (omega arith))
+
+pub place-block : (o k : ℕ) → place 32 o k ≡ k * 32 + o
+place-block o k = place-is 32 o k

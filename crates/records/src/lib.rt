@@ -1,0 +1,57 @@
+// The calls over a block table that is a lent list of block records. Each says of the records what the calls of u64_based say of
+// four numbers a block.
+//
+// Only `fill` writes a table and only `block_at` reads one; the others pass it on.
+ghost use mathlib.Core.Path.{_≡_};
+ghost use Prim.Native.Nat.{_/_, _%_, _^_};
+ghost use Rattle.format.specs.Refusals.{rowMeaning};
+ghost use Rattle.format.specs.Reading.{columnRow, blockAt, rowAt};
+ghost use Rattle.records.specs.Records.{noBlock, numbersOf};
+use format::Block;
+use format::Column;
+use format::Line;
+use format::RowRead;
+use format::WindowRow;
+
+// The block of a table that has none.
+fn no_block() -> Block
+    ensures { λ r. ⌜ r ≡ noBlock ⌝ }
+{
+    let line = Line {
+        slope: 0,
+        intercept: 0,
+    };
+    Block {
+        line,
+        bits: 0,
+        start: 0,
+    }
+}
+
+// Block `k` of a table; a block past the table's end is all zeros.
+pub fn block_at(table: &[Block], k: usize) -> Block
+    ensures { λ r. ⌜ r ≡ blockAt (numbersOf (now (table .entry))) k ⌝ }
+{
+    if k < table.len() {
+        return table[k];
+    }
+    no_block()
+}
+
+// The block that has a row of a column's window, the row counted modulo 2^32.
+fn block_of(column: Column, row: WindowRow) -> usize
+    ensures { λ r. ⌜ r ≡ columnRow column (row .0) % 2 ^ 32 / 512 ⌝ }
+{
+    let at = reading::reader::column_row(column.window.first, row);
+    blockwise_linear::reader::split(at).block
+}
+
+// The value of a row of an opened column's window, with its table and its bytes.
+pub fn row(column: Column, table: &[Block], bytes: &[u8], row: WindowRow) -> RowRead
+    ensures { λ r. ⌜ rowMeaning r ≡ rowAt column (numbersOf (now (table .entry))) (now (bytes .entry)) (row .0) ⌝ }
+{
+    let blocks = table.len();
+    let k = block_of(column, row);
+    let block = block_at(table, k);
+    reading::reader::row_in(column, blocks, block, bytes, row)
+}
