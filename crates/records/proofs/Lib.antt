@@ -2,5 +2,6 @@
 
 -- the table
 pub mod Tables
--- the data of the walks by hand
+-- the walks by hand
 pub mod Types
+pub mod Rounds

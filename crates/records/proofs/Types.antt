@@ -1,5 +1,5 @@
 -- The data of the walks by hand, and where a block of a table lies.
---     column-rows                   a column's rows are below 2^32
+--     column-rows, column-window    a column's rows are below 2^32, and its window fits
 --     place-fits, place-block       the bytes before a block fit a usize, and are 32 a block
 -- Assumes nothing.
 use mathlib.Core.Path.{_≡_}
@@ -17,8 +17,16 @@ use Rattle.format.proofs.Column as C
 use Rattle.format.proofs.Column.Laws as C′
 use Rattle.format.proofs.WindowRow as N
 use Rattle.format.proofs.WindowRow.Laws as N′
+use Rattle.format.proofs.Window as P
+use Rattle.format.proofs.Window.Laws as P′
 use Rattle.format.proofs.RowRead as A
 use Rattle.format.proofs.RowRead.Laws as A′
+use Rattle.format.proofs.RunRead as R
+use Rattle.format.proofs.RunRead.Laws as R′
+use Rattle.format.proofs.Found as F
+use Rattle.format.proofs.Found.Laws as F′
+use Rattle.reading.proofs.walks.Walk as W
+use Rattle.reading.proofs.walks.Walk.Laws as W′
 
 abbrev pub block : Data
 block = struct B.the-type B′.the-laws B′.the-plain
@@ -32,8 +40,23 @@ windowRow = struct N.the-type N′.the-laws N′.the-plain
 abbrev pub rowRead : Data
 rowRead = enum A.the-type A′.the-laws tt A′.the-plain
 
+abbrev pub window : Data
+window = struct P.the-type P′.the-laws P′.the-plain
+
+abbrev pub runRead : Data
+runRead = enum R.the-type R′.the-laws tt R′.the-plain
+
+abbrev pub found : Data
+found = enum F.the-type F′.the-laws tt F′.the-plain
+
+abbrev pub walk : Data
+walk = struct W.the-type W′.the-laws W′.the-plain
+
 pub column-rows : (c : Column) → Fits column c → c .rows < 2 ^ 32
 column-rows c is = LL.owed C.the-type C′.the-laws c (vals column c) is .1 .1 .1 .0 .1
+
+pub column-window : (c : Column) → Fits column c → Fits window (c .window)
+column-window c is = LL.owed C.the-type C′.the-laws c (vals column c) is .1 .1 .1 .1 .1 .1 .0
 
 pub place-fits : (n k : ℕ) → Room (block .row) n → k < n → k * 32 < 2 ^ 64
 place-fits n k room l = lt-trans (mul-lt-mul-of-pos-right {m = k} {n = n} {k = 32} l (omega arith)) (lt-trans (room .1) (omega arith))

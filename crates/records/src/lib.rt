@@ -4,13 +4,19 @@
 // Only `fill` writes a table and only `block_at` reads one; the others pass it on.
 ghost use mathlib.Core.Path.{_≡_};
 ghost use Prim.Native.Nat.{_/_, _%_, _^_};
+ghost use lib.ListN.{length};
 ghost use Rattle.format.specs.Refusals.{rowMeaning};
+ghost use Rattle.format.specs.Lookup.{lookedUp, within};
 ghost use Rattle.format.specs.Reading.{columnRow, blockAt, rowAt};
+ghost use Rattle.format.specs.Runs.{decoded};
+ghost use Rattle.format.specs.Calls.{FoundAs, RunAs};
 ghost use Rattle.records.specs.Records.{noBlock, numbersOf};
 use format::Block;
 use format::Column;
+use format::Found;
 use format::Line;
 use format::RowRead;
+use format::RunRead;
 use format::WindowRow;
 
 // The block of a table that has none.
@@ -54,4 +60,44 @@ pub fn row(column: Column, table: &[Block], bytes: &[u8], row: WindowRow) -> Row
     let k = block_of(column, row);
     let block = block_at(table, k);
     reading::reader::row_in(column, blocks, block, bytes, row)
+}
+
+// The rows from `first` to `end`, cut to the window's rows, whose value lies from `low` to `high`, ascending into the first entries of `found`.
+pub fn lookup(
+    column: Column,
+    table: &[Block],
+    bytes: &[u8],
+    low: u64,
+    high: u64,
+    first: u32,
+    end: u32,
+    found: &mut [u32],
+) -> Found
+    ensures { λ r. ⌜ FoundAs (lookedUp (rowAt column (numbersOf (now (table .entry))) (now (bytes .entry))) (column .window .rows) (within low high) first end (length (now (found .entry)))) r (now (found .entry)) (now (found .exit)) ⌝ }
+{
+    let blocks = table.len();
+    let window = column.window;
+    let mut w = reading::finding::begin(window, first, end);
+    while w.going {
+        let k = reading::walks::block_of(w);
+        let block = block_at(table, k);
+        w = reading::finding::step(column, blocks, block, bytes, low, high, w, found);
+    }
+    reading::finding::answer(w)
+}
+
+// The values of the window's rows from `first` on, as many as the lent list has entries, into that list.
+pub fn run(column: Column, table: &[Block], bytes: &[u8], first: u32, out: &mut [u64]) -> RunRead
+    ensures { λ r. ⌜ RunAs (decoded (rowAt column (numbersOf (now (table .entry))) (now (bytes .entry))) (column .window .rows) first (length (now (out .entry)))) r (now (out .entry)) (now (out .exit)) ⌝ }
+{
+    let blocks = table.len();
+    let rows = out.len();
+    let window = column.window;
+    let mut w = reading::runs::begin(window, first, rows);
+    while w.going {
+        let k = reading::walks::block_of(w);
+        let block = block_at(table, k);
+        w = reading::runs::step(column, blocks, block, bytes, w, out);
+    }
+    reading::runs::answer(w)
 }
