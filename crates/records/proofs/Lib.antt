@@ -5,3 +5,5 @@ pub mod Tables
 -- the walks by hand
 pub mod Types
 pub mod Rounds
+pub mod Filling
+pub mod Opening

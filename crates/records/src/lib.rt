@@ -3,18 +3,23 @@
 //
 // Only `fill` writes a table and only `block_at` reads one; the others pass it on.
 ghost use mathlib.Core.Path.{_≡_};
-ghost use Prim.Native.Nat.{_/_, _%_, _^_};
+ghost use Prim.Native.Nat.{_*_, _/_, _%_, _^_};
 ghost use lib.ListN.{length};
+ghost use Rattle.format.specs.Outcome.{stored};
 ghost use Rattle.format.specs.Refusals.{rowMeaning};
+ghost use Rattle.format.specs.Opening.{opened};
+ghost use Rattle.format.specs.Sheets.{openedUnder};
 ghost use Rattle.format.specs.Lookup.{lookedUp, within};
 ghost use Rattle.format.specs.Reading.{columnRow, blockAt, rowAt};
 ghost use Rattle.format.specs.Runs.{decoded};
-ghost use Rattle.format.specs.Calls.{FoundAs, RunAs};
+ghost use Rattle.format.specs.Calls.{OpenedAs, FoundAs, RunAs};
+ghost use Rattle.blockwise_linear.specs.Reader.{firstCursor, blocksFrom, numbersIn, Fillable};
 ghost use Rattle.records.specs.Records.{noBlock, numbersOf};
 use format::Block;
 use format::Column;
 use format::Found;
 use format::Line;
+use format::Opened;
 use format::RowRead;
 use format::RunRead;
 use format::WindowRow;
@@ -100,4 +105,38 @@ pub fn run(column: Column, table: &[Block], bytes: &[u8], first: u32, out: &mut 
         w = reading::runs::step(column, blocks, block, bytes, w, out);
     }
     reading::runs::answer(w)
+}
+
+// Internal: asks for blocks that were checked, and for room. The blocks of so many rows are put into the table, one after another.
+fn fill(bytes: &[u8], rows: u32, table: &mut [Block])
+    requires { ⌜ Fillable (now bytes) rows (4 * length (now table)) ⌝ }
+    ensures { λ _. ⌜ numbersOf (now (table .exit)) ≡ stored (numbersIn (blocksFrom (now (bytes .entry)) (firstCursor (now (bytes .entry)) rows))) (numbersOf (now (table .entry))) ⌝ }
+{
+    let mut c = blockwise_linear::reader::first(bytes, rows);
+    let mut k: usize = 0;
+    while 0 < c.left {
+        let step = blockwise_linear::reader::next_block(bytes, c);
+        table[k] = step.block;
+        c = step.next;
+        k += 1;
+    }
+}
+
+// Opens a column under an acceptance sheet, says how its numbers are spelled, and puts the blocks of a Blockwise one into the lent table, a
+// record a block. A refusal leaves the table as it was; so does a column without blocks.
+pub fn open_under(sheet: u32, bytes: &[u8], table: &mut [Block]) -> Opened
+    ensures { λ r. ⌜ OpenedAs (openedUnder sheet (now (bytes .entry)) (length (now (table .entry)))) r (numbersOf (now (table .entry))) (numbersOf (now (table .exit))) ⌝ }
+{
+    let room = table.len();
+    let answer = u64_based::open_plain_under(sheet, bytes, room);
+    let rows = u64_based::opening::table_rows(answer);
+    fill(bytes, rows, table);
+    answer
+}
+
+// Opens a column under sheet 1.
+pub fn open(bytes: &[u8], table: &mut [Block]) -> Opened
+    ensures { λ r. ⌜ OpenedAs (opened (now (bytes .entry)) (length (now (table .entry)))) r (numbersOf (now (table .entry))) (numbersOf (now (table .exit))) ⌝ }
+{
+    open_under(1, bytes, table)
 }
