@@ -7,3 +7,6 @@ pub mod Types
 pub mod Rounds
 pub mod Filling
 pub mod Opening
+-- what the contracts come to
+pub mod Determined
+pub mod Same
