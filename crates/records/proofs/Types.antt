@@ -1,5 +1,7 @@
 -- The data of the walks by hand, and where a block of a table lies.
---     column-rows, column-window    a column's rows are below 2^32, and its window fits
+--     column-rows, column-window, window-rows
+--                                   a column's rows are below 2^32, its window fits, and so are that's rows
+--     replay-answer                 the answer of a replay under way fits
 --     step-block, step-next         a step's block and its next place fit
 --     place-fits, place-block       the bytes before a block fit a usize, and are 32 a block
 -- Assumes nothing.
@@ -12,6 +14,8 @@ use denote.Slice.{Room}
 use denote.Struct.Laws as LL
 use Rattle.walking.proofs.Data.{Data, struct, enum, vals, Fits}
 use Rattle.format.specs.declared.Column.{Column}
+use Rattle.format.specs.declared.Window.{Window}
+use Rattle.replaying.specs.declared.walking.Walk.{Walk}
 use Rattle.blockwise_linear.specs.declared.reader.Step.{Step}
 use Rattle.format.proofs.Block as B
 use Rattle.format.proofs.Block.Laws as B′
@@ -33,6 +37,10 @@ use Rattle.blockwise_linear.proofs.reader.Cursor as K
 use Rattle.blockwise_linear.proofs.reader.Cursor.Laws as K′
 use Rattle.blockwise_linear.proofs.reader.Step as S
 use Rattle.blockwise_linear.proofs.reader.Step.Laws as S′
+use Rattle.replaying.proofs.walking.Walk as Y
+use Rattle.replaying.proofs.walking.Walk.Laws as Y′
+use Rattle.format.proofs.Replayed as Z
+use Rattle.format.proofs.Replayed.Laws as Z′
 use Rattle.reading.proofs.walks.Walk as W
 use Rattle.reading.proofs.walks.Walk.Laws as W′
 
@@ -63,6 +71,12 @@ found = enum F.the-type F′.the-laws tt F′.the-plain
 abbrev pub walk : Data
 walk = struct W.the-type W′.the-laws W′.the-plain
 
+abbrev pub replayed : Data
+replayed = enum Z.the-type Z′.the-laws tt Z′.the-plain
+
+abbrev pub replay : Data
+replay = struct Y.the-type Y′.the-laws Y′.the-plain
+
 abbrev pub cursor : Data
 cursor = struct K.the-type K′.the-laws K′.the-plain
 
@@ -74,6 +88,12 @@ column-rows c is = LL.owed C.the-type C′.the-laws c (vals column c) is .1 .1 .
 
 pub column-window : (c : Column) → Fits column c → Fits window (c .window)
 column-window c is = LL.owed C.the-type C′.the-laws c (vals column c) is .1 .1 .1 .1 .1 .1 .0
+
+pub window-rows : (w : Window) → Fits window w → w .rows < 2 ^ 32
+window-rows w is = LL.owed P.the-type P′.the-laws w (vals window w) is .1 .0 .1
+
+pub replay-answer : (w : Walk) → Fits replay w → Fits replayed (w .answer)
+replay-answer w is = LL.owed Y.the-type Y′.the-laws w (vals replay w) is .1 .1 .1 .1 .1 .1 .1 .0
 
 pub step-block : (s : Step) → Fits step s → Fits block (s .block)
 step-block s is = LL.owed S.the-type S′.the-laws s (vals step s) is .0

@@ -6,12 +6,13 @@ ghost use mathlib.Core.Path.{_≡_};
 ghost use Prim.Native.Nat.{_*_, _/_, _%_, _^_};
 ghost use lib.ListN.{length};
 ghost use Rattle.format.specs.Outcome.{stored};
-ghost use Rattle.format.specs.Refusals.{rowMeaning};
+ghost use Rattle.format.specs.Refusals.{rowMeaning, replayedMeaning};
 ghost use Rattle.format.specs.Opening.{opened};
 ghost use Rattle.format.specs.Sheets.{openedUnder};
 ghost use Rattle.format.specs.Lookup.{lookedUp, within};
 ghost use Rattle.format.specs.Reading.{columnRow, blockAt, rowAt};
 ghost use Rattle.format.specs.Runs.{decoded};
+ghost use Rattle.format.specs.Replaying.{replayed};
 ghost use Rattle.format.specs.Calls.{OpenedAs, FoundAs, RunAs};
 ghost use Rattle.blockwise_linear.specs.Reader.{firstCursor, blocksFrom, numbersIn, Fillable};
 ghost use Rattle.records.specs.Records.{noBlock, numbersOf};
@@ -20,6 +21,7 @@ use format::Column;
 use format::Found;
 use format::Line;
 use format::Opened;
+use format::Replayed;
 use format::RowRead;
 use format::RunRead;
 use format::WindowRow;
@@ -105,6 +107,21 @@ pub fn run(column: Column, table: &[Block], bytes: &[u8], first: u32, out: &mut 
         w = reading::runs::step(column, blocks, block, bytes, w, out);
     }
     reading::runs::answer(w)
+}
+
+// Runs the recorded lookups one after another, up to the first whose rows are not the recorded ones.
+pub fn replay(column: Column, table: &[Block], bytes: &[u8], recording: &[u8]) -> Replayed
+    ensures { λ r. ⌜ replayedMeaning r ≡ replayed (rowAt column (numbersOf (now (table .entry))) (now (bytes .entry))) (column .window .rows) (now (recording .entry)) ⌝ }
+{
+    let blocks = table.len();
+    let rows = column.window.rows;
+    let mut w = replaying::walking::begin(rows, recording);
+    while w.going {
+        let k = replaying::walking::block_of(column, w);
+        let block = block_at(table, k);
+        w = replaying::walking::step(column, blocks, block, bytes, recording, w);
+    }
+    w.answer
 }
 
 // Internal: asks for blocks that were checked, and for room. The blocks of so many rows are put into the table, one after another.
