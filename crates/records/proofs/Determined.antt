@@ -1,6 +1,6 @@
 -- The contracts determine what the calls answer and what every lent record holds afterwards: two results that they allow coincide.
 --     block-determined, open-determined, open-under-determined
--- Of `row`, `lookup`, `run` and `replay` those laws of u64_based and replaying say it, at the numbers of the records.
+-- Of `row`, `lookup`, `run`, `chunk` and `replay` those laws of u64_based and replaying say it, at the numbers of the records.
 -- Assumes nothing.
 use Prim.Native.Nat.{ℕ}
 use mathlib.Core.Path.{_≡_, sym, _∙_}

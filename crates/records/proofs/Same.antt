@@ -1,10 +1,10 @@
 -- The records hold what four numbers a block hold, and every call answers the same by either.
 --     opens-same                             opening the same bytes with records and with as many numbers: the same answer, and the records left stand for the numbers left
---     row-same, lookup-same, run-same, replay-same
---                                            then a row, a lookup, a run and a replay by either answer the same, and leave the same list
+--     row-same, lookup-same, run-same, chunk-same, replay-same
+--                                            then a row, a lookup, a run, a chunk and a replay by either answer the same, and leave the same list
 --     refused-kept, past-kept                a refusal leaves all records, and a column the records past its blocks
 -- Assumes nothing.
-use Prim.Native.Nat.{ℕ, suc, _+_, _*_, _/_, _≤_}
+use Prim.Native.Nat.{ℕ, suc, _+_, _-_, _*_, _/_, _≤_}
 use mathlib.Core.Path.{_≡_, refl, sym, ap, _∙_, subst}
 use mathlib.Core.List.{List, [], _∷_}
 use native.Mathlib.Omega.{arith}
@@ -20,14 +20,17 @@ use Rattle.format.specs.declared.RunRead.{RunRead}
 use Rattle.format.specs.Lookup.{lookedUp, within}
 use Rattle.format.specs.Opening.{Loaded}
 use Rattle.format.specs.Outcome.{Outcome.value, Outcome.refusal}
-use Rattle.format.specs.Reading.{blockAt, rowAt}
+use Rattle.format.specs.Reading.{columnRow, blockAt, rowAt}
 use Rattle.format.specs.Refusals.{rowMeaning, replayedMeaning}
 use Rattle.format.specs.Replaying.{replayed}
 use Rattle.format.specs.Runs.{decoded}
 use Rattle.format.specs.Sheets.{openedUnder}
 use Rattle.format.specs.Calls.{FoundAs, RunAs, OpenedAs}
+use Rattle.reading.specs.declared.taking.Stretch.{Stretch}
+use Rattle.reading.specs.Chunks.{chunkSize}
+use Rattle.reading.specs.Stretch.{StretchAs}
 use Rattle.format.proofs.Answers.{opened-injective}
-use Rattle.u64_based.proofs.Determined.{row-determined, lookup-determined, run-determined}
+use Rattle.u64_based.proofs.Determined.{row-determined, lookup-determined, run-determined, chunk-determined}
 use Rattle.replaying.proofs.Determined.{replay-determined}
 use Rattle.records.specs.Records.{noBlock, numbersOf}
 use Rattle.records.proofs.Tables.{quarter, held, same-records}
@@ -61,6 +64,14 @@ pub run-same : (column : Column) (records : List Block) (numbers s : List ℕ) �
 run-same column records numbers s same first out a b after after′ p q =
     run-determined column numbers s first out a b after after′
     (subst (λ (t : List ℕ). RunAs (decoded (rowAt column t s) (column .window .rows) first (length out)) a out after) same p) q
+
+pub chunk-same : (column : Column) (records : List Block) (numbers s : List ℕ) → numbersOf records ≡ numbers → (first : ℕ) (out : List ℕ) (a b : Stretch) (after after′ : List ℕ)
+    → StretchAs (rowAt column (numbersOf records) s) first (chunkSize (columnRow column first) (column .window .rows - first)) a out after
+    → StretchAs (rowAt column numbers s) first (chunkSize (columnRow column first) (column .window .rows - first)) b out after′
+    → (a ≡ b) × (after ≡ after′)
+chunk-same column records numbers s same first out a b after after′ p q =
+    chunk-determined column numbers s first out a b after after′
+    (subst (λ (t : List ℕ). StretchAs (rowAt column t s) first (chunkSize (columnRow column first) (column .window .rows - first)) a out after) same p) q
 
 pub replay-same : (column : Column) (records : List Block) (numbers s : List ℕ) → numbersOf records ≡ numbers → (recording : List ℕ) (a b : Replayed)
     → replayedMeaning a ≡ replayed (rowAt column (numbersOf records) s) (column .window .rows) recording → replayedMeaning b ≡ replayed (rowAt column numbers s) (column .window .rows) recording → a ≡ b

@@ -1,7 +1,7 @@
 -- A table of records and its four numbers a block.
 --     four-each, quarter       four numbers a block, so a quarter as many blocks as numbers
 --     held                     block k of the numbers is record k, also past the end
---     by-record                a row answers by its record what it answers by the numbers
+--     by-record, by-chunk      a row, and a chunk, answer by their record what they answer by the numbers
 --     same-records             tables with the same numbers are the same
 --     one-stored               a record stored is its four numbers stored
 -- Assumes nothing.
@@ -15,7 +15,12 @@ use lib.Seq.{sets}
 use Rattle.format.specs.declared.Block.{Block}
 use Rattle.format.specs.declared.Column.{Column}
 use Rattle.format.specs.Reading.{columnRow, blockAt, rowIn, rowAt}
+use Rattle.reading.specs.declared.taking.Stretch.{Stretch}
+use Rattle.reading.specs.Chunks.{chunkSize}
+use Rattle.reading.specs.Stretch.{StretchAs}
+use Rattle.reading.proofs.Chunks.{in-block}
 use Rattle.reading.proofs.Moving.{any-block}
+use Rattle.reading.proofs.Stretches.{stretch-by}
 use Rattle.records.specs.Records.{noBlock, numbersOf}
 
 pub four-each : (t : List Block) → length (numbersOf t) ≡ 4 * length t
@@ -50,6 +55,12 @@ pub by-record : (col : Column) → col .rows < 2 ^ 32 → (t : List Block) (s : 
     → rowIn col (length t) b s r ≡ rowAt col (numbersOf t) s r
 by-record col few t s r {k} {b} number block =
     ap (λ (n : ℕ). rowIn col n b s r) (sym (quarter t)) ∙ rw (block, number) (any-block col few r (numbersOf t) s)
+
+pub by-chunk : (col : Column) → col .rows < 2 ^ 32 → (t : List Block) (s : List ℕ) (r left : ℕ) {k : ℕ} {b : Block} {a : Stretch} {old new : List ℕ} → k ≡ columnRow col r % 2 ^ 32 / 512 → b ≡ blockAt (numbersOf t) k
+    → StretchAs (rowIn col (length t) b s) r (chunkSize (columnRow col r) left) a old new → StretchAs (rowAt col (numbersOf t) s) r (chunkSize (columnRow col r) left) a old new
+by-chunk col few t s r left {k} {b} number block =
+    stretch-by (rowIn col (length t) b s) (rowAt col (numbersOf t) s) r (chunkSize (columnRow col r) left)
+    (in-block col few (numbersOf t) s r (chunkSize (columnRow col r) left) (sym (quarter t)) (block ∙ ap (blockAt (numbersOf t)) number) (omega arith))
 
 pub same-records : (t u : List Block) → numbersOf t ≡ numbersOf u → t ≡ u
 unfolding numbersOf

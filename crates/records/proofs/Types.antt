@@ -37,6 +37,8 @@ use Rattle.blockwise_linear.proofs.reader.Cursor as K
 use Rattle.blockwise_linear.proofs.reader.Cursor.Laws as K′
 use Rattle.blockwise_linear.proofs.reader.Step as S
 use Rattle.blockwise_linear.proofs.reader.Step.Laws as S′
+use Rattle.reading.proofs.taking.Stretch as T
+use Rattle.reading.proofs.taking.Stretch.Laws as T′
 use Rattle.replaying.proofs.walking.Walk as Y
 use Rattle.replaying.proofs.walking.Walk.Laws as Y′
 use Rattle.format.proofs.Replayed as Z
@@ -70,6 +72,9 @@ found = enum F.the-type F′.the-laws tt F′.the-plain
 
 abbrev pub walk : Data
 walk = struct W.the-type W′.the-laws W′.the-plain
+
+abbrev pub stretch : Data
+stretch = enum T.the-type T′.the-laws tt T′.the-plain
 
 abbrev pub replayed : Data
 replayed = enum Z.the-type Z′.the-laws tt Z′.the-plain
