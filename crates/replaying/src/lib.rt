@@ -1,6 +1,6 @@
 // Recorded lookups, replayed over an opened column: the entry point. No argument makes the call fail but by a numbered refusal.
 mod parsing;
-mod walking;
+pub mod walking;
 
 ghost use mathlib.Core.Path.{_≡_};
 ghost use Rattle.format.specs.Reading.{rowAt};

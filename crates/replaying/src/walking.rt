@@ -61,7 +61,7 @@ pub struct Met {
 }
 
 // The block of the chunk at hand, as the column counts the window's rows.
-pub(crate) fn block_of(column: Column, w: Walk) -> usize
+pub fn block_of(column: Column, w: Walk) -> usize
     ensures { λ r. ⌜ r ≡ columnRow column (w .at) % 2 ^ 32 / 512 ⌝ }
 {
     let row = reading::reader::column_row(column.window.first, WindowRow(w.at));
@@ -183,7 +183,7 @@ fn go_on(rows: u32, recording: &[u8], head: Recording, k: u32) -> Walk
 }
 
 // How a replay begins: with the test of the recording, before any lookup.
-pub(crate) fn begin(rows: u32, recording: &[u8]) -> Walk
+pub fn begin(rows: u32, recording: &[u8]) -> Walk
     ensures { λ w. ⌜ ((read : ℕ → Outcome ℕ) → Replaying read rows (now (recording .entry)) w) ⌝ }
 {
     if !is_recording(recording) {
@@ -254,7 +254,7 @@ fn step_through(
 }
 
 // Internal: asks for a replay that is going on over rows of the window. One turn: the chunk at hand, with its block out of a table of so many.
-pub(crate) fn step(
+pub fn step(
     column: Column,
     blocks: usize,
     block: Block,

@@ -22,7 +22,7 @@ pub(crate) fn load(code: u8, bytes: &[u8], head: Head, room: usize) -> Opened
 }
 
 // The rows whose blocks go to the table: those of a Blockwise column.
-fn table_rows(opened: Opened) -> u32
+pub fn table_rows(opened: Opened) -> u32
     ensures { λ r. ⌜ r ≡ tabled (openedMeaning opened) ⌝ }
 {
     match opened {

@@ -1,0 +1,186 @@
+// The calls over a block table that is a lent list of block records. Each says of the records what the calls of u64_based say of
+// four numbers a block.
+//
+// Only `fill` writes a table and only `block_at` reads one; the others pass it on.
+ghost use mathlib.Core.Path.{_≡_};
+ghost use Prim.Native.Nat.{_-_, _*_, _/_, _%_, _^_};
+ghost use lib.ListN.{length};
+ghost use Rattle.format.specs.Outcome.{stored};
+ghost use Rattle.format.specs.Refusals.{rowMeaning, replayedMeaning};
+ghost use Rattle.format.specs.Opening.{opened};
+ghost use Rattle.format.specs.Sheets.{openedUnder};
+ghost use Rattle.format.specs.Lookup.{lookedUp, within};
+ghost use Rattle.format.specs.Reading.{columnRow, blockAt, rowAt};
+ghost use Rattle.format.specs.Runs.{decoded};
+ghost use Rattle.format.specs.Replaying.{replayed};
+ghost use Rattle.format.specs.Calls.{OpenedAs, FoundAs, RunAs};
+ghost use Rattle.reading.specs.Chunks.{chunkSize};
+ghost use Rattle.reading.specs.Stretch.{StretchAs};
+ghost use Rattle.blockwise_linear.specs.Reader.{firstCursor, blocksFrom, numbersIn, Fillable};
+ghost use Rattle.records.specs.Records.{noBlock, numbersOf};
+use format::Block;
+use format::Column;
+use format::Found;
+use format::Line;
+use format::Opened;
+use format::Replayed;
+use format::RowRead;
+use format::RunRead;
+use format::WindowRow;
+use reading::taking::Stretch;
+
+// The block of a table that has none.
+fn no_block() -> Block
+    ensures { λ r. ⌜ r ≡ noBlock ⌝ }
+{
+    let line = Line {
+        slope: 0,
+        intercept: 0,
+    };
+    Block {
+        line,
+        bits: 0,
+        start: 0,
+    }
+}
+
+// Block `k` of a table; a block past the table's end is all zeros.
+pub fn block_at(table: &[Block], k: usize) -> Block
+    ensures { λ r. ⌜ r ≡ blockAt (numbersOf (now (table .entry))) k ⌝ }
+{
+    if k < table.len() {
+        return table[k];
+    }
+    no_block()
+}
+
+// The block that has a row of a column's window, the row counted modulo 2^32.
+fn block_of(column: Column, row: WindowRow) -> usize
+    ensures { λ r. ⌜ r ≡ columnRow column (row .0) % 2 ^ 32 / 512 ⌝ }
+{
+    let at = reading::reader::column_row(column.window.first, row);
+    blockwise_linear::reader::split(at).block
+}
+
+// The value of a row of an opened column's window, with its table and its bytes.
+pub fn row(column: Column, table: &[Block], bytes: &[u8], row: WindowRow) -> RowRead
+    ensures { λ r. ⌜ rowMeaning r ≡ rowAt column (numbersOf (now (table .entry))) (now (bytes .entry)) (row .0) ⌝ }
+{
+    let blocks = table.len();
+    let k = block_of(column, row);
+    let block = block_at(table, k);
+    reading::reader::row_in(column, blocks, block, bytes, row)
+}
+
+// The rows from `first` to `end`, cut to the window's rows, whose value lies from `low` to `high`, ascending into the first entries of `found`.
+pub fn lookup(
+    column: Column,
+    table: &[Block],
+    bytes: &[u8],
+    low: u64,
+    high: u64,
+    first: u32,
+    end: u32,
+    found: &mut [u32],
+) -> Found
+    ensures { λ r. ⌜ FoundAs (lookedUp (rowAt column (numbersOf (now (table .entry))) (now (bytes .entry))) (column .window .rows) (within low high) first end (length (now (found .entry)))) r (now (found .entry)) (now (found .exit)) ⌝ }
+{
+    let blocks = table.len();
+    let window = column.window;
+    let mut w = reading::finding::begin(window, first, end);
+    while w.going {
+        let k = reading::walks::block_of(w);
+        let block = block_at(table, k);
+        w = reading::finding::step(column, blocks, block, bytes, low, high, w, found);
+    }
+    reading::finding::answer(w)
+}
+
+// The values of the window's rows from `first` on, as many as the lent list has entries, into that list.
+pub fn run(column: Column, table: &[Block], bytes: &[u8], first: u32, out: &mut [u64]) -> RunRead
+    ensures { λ r. ⌜ RunAs (decoded (rowAt column (numbersOf (now (table .entry))) (now (bytes .entry))) (column .window .rows) first (length (now (out .entry)))) r (now (out .entry)) (now (out .exit)) ⌝ }
+{
+    let blocks = table.len();
+    let rows = out.len();
+    let window = column.window;
+    let mut w = reading::runs::begin(window, first, rows);
+    while w.going {
+        let k = reading::walks::block_of(w);
+        let block = block_at(table, k);
+        w = reading::runs::step(column, blocks, block, bytes, w, out);
+    }
+    reading::runs::answer(w)
+}
+
+// The block of a chunk that begins with a row.
+fn block_from(column: Column, first: u32) -> usize
+    ensures { λ r. ⌜ r ≡ columnRow column first % 2 ^ 32 / 512 ⌝ }
+{
+    block_of(column, WindowRow(first))
+}
+
+// The values of the window's rows from `first` to the end of its block, or of the window, up to the first that reading refuses, into the front of the lent list; how many, and that row's
+// refusal if there is one. A row that is not below the window's has none.
+pub fn chunk(
+    column: Column,
+    table: &[Block],
+    bytes: &[u8],
+    first: u32,
+    out: &mut [u64; 512],
+) -> Stretch
+    ensures { λ r. ⌜ StretchAs (rowAt column (numbersOf (now (table .entry))) (now (bytes .entry))) first (chunkSize (columnRow column first) (column .window .rows - first)) r (now (out .entry)) (now (out .exit)) ⌝ }
+{
+    let blocks = table.len();
+    let k = block_from(column, first);
+    let block = block_at(table, k);
+    reading::taking::take(column, blocks, block, bytes, first, out)
+}
+
+// Runs the recorded lookups one after another, up to the first whose rows are not the recorded ones.
+pub fn replay(column: Column, table: &[Block], bytes: &[u8], recording: &[u8]) -> Replayed
+    ensures { λ r. ⌜ replayedMeaning r ≡ replayed (rowAt column (numbersOf (now (table .entry))) (now (bytes .entry))) (column .window .rows) (now (recording .entry)) ⌝ }
+{
+    let blocks = table.len();
+    let rows = column.window.rows;
+    let mut w = replaying::walking::begin(rows, recording);
+    while w.going {
+        let k = replaying::walking::block_of(column, w);
+        let block = block_at(table, k);
+        w = replaying::walking::step(column, blocks, block, bytes, recording, w);
+    }
+    w.answer
+}
+
+// Internal: asks for blocks that were checked, and for room. The blocks of so many rows are put into the table, one after another.
+fn fill(bytes: &[u8], rows: u32, table: &mut [Block])
+    requires { ⌜ Fillable (now bytes) rows (4 * length (now table)) ⌝ }
+    ensures { λ _. ⌜ numbersOf (now (table .exit)) ≡ stored (numbersIn (blocksFrom (now (bytes .entry)) (firstCursor (now (bytes .entry)) rows))) (numbersOf (now (table .entry))) ⌝ }
+{
+    let mut c = blockwise_linear::reader::first(bytes, rows);
+    let mut k: usize = 0;
+    while 0 < c.left {
+        let step = blockwise_linear::reader::next_block(bytes, c);
+        table[k] = step.block;
+        c = step.next;
+        k += 1;
+    }
+}
+
+// Opens a column under an acceptance sheet, says how its numbers are spelled, and puts the blocks of a Blockwise one into the lent table, a
+// record a block. A refusal leaves the table as it was; so does a column without blocks.
+pub fn open_under(sheet: u32, bytes: &[u8], table: &mut [Block]) -> Opened
+    ensures { λ r. ⌜ OpenedAs (openedUnder sheet (now (bytes .entry)) (length (now (table .entry)))) r (numbersOf (now (table .entry))) (numbersOf (now (table .exit))) ⌝ }
+{
+    let room = table.len();
+    let answer = u64_based::open_plain_under(sheet, bytes, room);
+    let rows = u64_based::opening::table_rows(answer);
+    fill(bytes, rows, table);
+    answer
+}
+
+// Opens a column under sheet 1.
+pub fn open(bytes: &[u8], table: &mut [Block]) -> Opened
+    ensures { λ r. ⌜ OpenedAs (opened (now (bytes .entry)) (length (now (table .entry)))) r (numbersOf (now (table .entry))) (numbersOf (now (table .exit))) ⌝ }
+{
+    open_under(1, bytes, table)
+}
