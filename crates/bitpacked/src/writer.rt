@@ -37,7 +37,7 @@ fn pack_normalised(kind: Kind, values: &[u64], stats: ColumnStats, bits: u8, out
     let mut i = 0;
     while i < rows {
         let v = monotonic_mapping::stored_of(kind, values[i]);
-        packer = packer.write(out, (v - minimum) / gcd, bits);
+        packer = packer.write(out, stats::divide(v - minimum, gcd), bits);
         i += 1;
     }
     packer.close(out);

@@ -71,17 +71,6 @@ fn fit_block(ys: &mut [u64]) -> Fit
     Fit { line, bits }
 }
 
-// A division by the gcd, of which a column in steps of 1, and every estimate, is spared.
-fn divide(n: u64, gcd: u64) -> u64
-    requires { ⌜ 0 < gcd ⌝ }
-    ensures { λ r. ⌜ r ≡ n / gcd ⌝ }
-{
-    if gcd == 1 {
-        return n;
-    }
-    n / gcd
-}
-
 // Normalises the values from `at` on, as many as the block has room for. No other function of this file reads a value.
 fn load(kind: Kind, values: &[u64], at: usize, minimum: u64, gcd: u64, block: &mut [u64])
     requires { ⌜ Above minimum gcd (storedAs kind (now values)) ⌝ }
@@ -91,7 +80,7 @@ fn load(kind: Kind, values: &[u64], at: usize, minimum: u64, gcd: u64, block: &m
     let mut i = 0;
     while i < block.len() {
         let v = monotonic_mapping::stored_of(kind, values[at + i]);
-        block[i] = divide(v - minimum, gcd);
+        block[i] = stats::divide(v - minimum, gcd);
         i += 1;
     }
 }

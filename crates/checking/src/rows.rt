@@ -7,21 +7,12 @@ ghost use Rattle.reading.specs.Stretch.{counted};
 ghost use Rattle.checking.specs.Walks.{sameFront, behind};
 use format::Kind;
 use reading::taking::Stretch;
+use reading::taking::values_of;
 
 // A walk over the rows: all before `at` are the list's values. It goes on while no other was met, up to a chunk that has no values.
 pub struct Walk {
     pub at: u32,
     pub going: bool,
-}
-
-// How many values a chunk has before its end, or before its first refused row.
-fn values_of(stretch: Stretch) -> usize
-    ensures { λ r. ⌜ r ≡ counted stretch ⌝ }
-{
-    match stretch {
-        Stretch::Whole(n) => n,
-        Stretch::Stopped(n, _) => n,
-    }
 }
 
 // How many numbers at the front are those that the values of a list are stored as.

@@ -20,14 +20,14 @@ use format::Window;
 use format::WindowRow;
 
 // The end row, cut to so many rows.
-fn cut(end: u32, rows: u32) -> u32
+pub fn cut(end: u32, rows: u32) -> u32
     ensures { λ r. ⌜ r ≡ min end rows ⌝ }
 {
     if end < rows { end } else { rows }
 }
 
 // Whether a value lies from low to high.
-fn within(low: u64, high: u64, value: u64) -> bool
+pub fn within(low: u64, high: u64, value: u64) -> bool
     ensures { λ r. ⌜ r ≡ within low high value ⌝ }
 {
     if value < low {

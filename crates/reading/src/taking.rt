@@ -5,7 +5,7 @@ ghost use Prim.Native.Nat.{_+_, _-_, _^_, _≤_, _<_};
 ghost use lib.ListN.{length};
 ghost use Rattle.format.specs.Reading.{columnRow, rowIn};
 ghost use Rattle.reading.specs.Chunks.{Chunk, chunkSize};
-ghost use Rattle.reading.specs.Stretch.{StretchAs};
+ghost use Rattle.reading.specs.Stretch.{StretchAs, counted};
 use crate::reader::Decoded;
 use format::Block;
 use format::Column;
@@ -17,6 +17,16 @@ use format::WindowRow;
 pub enum Stretch {
     Whole(usize),
     Stopped(usize, Refusal),
+}
+
+// How many values a chunk has before its end, or before its first refused row.
+pub fn values_of(stretch: Stretch) -> usize
+    ensures { λ r. ⌜ r ≡ counted stretch ⌝ }
+{
+    match stretch {
+        Stretch::Whole(n) => n,
+        Stretch::Stopped(n, _) => n,
+    }
 }
 
 // Internal: asks for rows below 2^32 for which the list has room. The rows one by one, up to the first refused one.

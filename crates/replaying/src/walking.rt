@@ -23,6 +23,8 @@ use format::Recording;
 use format::Refusal;
 use format::Replayed;
 use format::WindowRow;
+use reading::finding::cut;
+use reading::finding::within;
 use reading::reader::Decoded;
 
 // Record k is at hand: its rows before `at` are done, and the first n recorded ones were found among them. While the replay is going on there are rows left; then its answer stands.
@@ -66,23 +68,6 @@ pub fn block_of(column: Column, w: Walk) -> usize
 {
     let row = reading::reader::column_row(column.window.first, WindowRow(w.at));
     blockwise_linear::reader::split(row).block
-}
-
-// The end row, cut to so many rows.
-fn cut(end: u32, rows: u32) -> u32
-    ensures { λ r. ⌜ r ≡ min end rows ⌝ }
-{
-    if end < rows { end } else { rows }
-}
-
-// Whether a value lies from low to high.
-fn within(low: u64, high: u64, value: u64) -> bool
-    ensures { λ r. ⌜ r ≡ within low high value ⌝ }
-{
-    if value < low {
-        return false;
-    }
-    value <= high
 }
 
 // Internal: asks that no more are met than recorded. One row with its value, of which n recorded rows came before: it is not looked for, it is the next recorded one, or it differs.

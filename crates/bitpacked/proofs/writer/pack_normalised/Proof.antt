@@ -1,7 +1,7 @@
 -- `bitpacked::writer::pack_normalised` meets its contract. The loop's invariant: the packer has packed the values passed, normalised.
 -- Assumes nothing.
 use Prim.Native.Nat.{_-_, _/_}
-use mathlib.Core.Path.{_∙_}
+use mathlib.Core.Path.{_∙_, sym}
 use mathlib.Core.List.{map}
 use native.Mathlib.Omega.{arith}
 use denote.Ref.{now}
@@ -36,19 +36,20 @@ shared-slice-read-stored-of c = search needs
 stored-of-requires : tie.Need-stored-of-requires Inv-loop μ-loop
 stored-of-requires c κs = search needs
 
-sub-write : tie.Need-sub-write Inv-loop μ-loop
-sub-write c = let at-loop = c .before .before .before .before in
+sub-divide : tie.Need-sub-divide Inv-loop μ-loop
+sub-divide c = let at-loop = c .before .before .before .before in
     let start = at-loop .before .before .before .before in
     stored-above (start .args .kind) (now (start .args .values)) (start .pre .0) (at-loop .loop .i) (omega arith) (c .before .stored-of .ensures)
 
-div-write : tie.Need-div-write Inv-loop μ-loop
-div-write c = sound-of (c .before .before .before .before .before .before .before .before .pre .0) .some
+divide-requires : tie.Need-divide-requires Inv-loop μ-loop
+divide-requires c κs = sound-of (c .before .before .before .before .before .before .before .before .pre .0) .some
 
 write-requires : tie.Need-write-requires Inv-loop μ-loop
-write-requires c κs = let at-loop = c .before .before .before .before in
+write-requires c κs = let at-loop = c .before .before .before .before .before in
     let start = at-loop .before .before .before .before in
-    packing-writable (start .pre .1) (stored-count (start .args .kind) (now (start .args .values)) (start .pre .0)) (at-loop .loop .inv) (omega arith)
-    (stored-step (start .args .kind) (now (start .args .values)) (start .pre .0) (at-loop .loop .i) (omega arith) (c .before .stored-of .ensures))
+    rw (c .divide .ensures)
+    (packing-writable (start .pre .1) (stored-count (start .args .kind) (now (start .args .values)) (start .pre .0)) (at-loop .loop .inv) (omega arith)
+    (stored-step (start .args .kind) (now (start .args .values)) (start .pre .0) (at-loop .loop .i) (omega arith) (c .before .before .stored-of .ensures)))
 
 add-i : tie.Need-add-i Inv-loop μ-loop
 add-i c = search needs
@@ -57,12 +58,12 @@ loop-less : tie.Need-loop-less Inv-loop μ-loop
 loop-less c = search needs
 
 loop-again : tie.Need-loop-again Inv-loop μ-loop
-loop-again c = let fetched = c .before .before .before .before in
+loop-again c = let fetched = c .before .before .before .before .before in
     let at-loop = fetched .before .before .before in
     let start = at-loop .before .before .before .before in
     packing-more (start .pre .1) (stored-count (start .args .kind) (now (start .args .values)) (start .pre .0)) (at-loop .loop .inv) (omega arith)
     (stored-step (start .args .kind) (now (start .args .values)) (start .pre .0) (at-loop .loop .i) (omega arith) (fetched .stored-of .ensures))
-    (c .before .before .write .ensures) (c .before .before .write .kept .1 .0)
+    (rw (sym (c .before .before .before .divide .ensures)) (c .before .before .write .ensures)) (c .before .before .write .kept .1 .0)
 
 close-requires : tie.Need-close-requires Inv-loop μ-loop
 close-requires c κs = let at-loop = c .before .before in
@@ -88,8 +89,8 @@ pack-normalised-spec =
     mul-stored-of
     shared-slice-read-stored-of
     stored-of-requires
-    sub-write
-    div-write
+    sub-divide
+    divide-requires
     write-requires
     add-i
     loop-less

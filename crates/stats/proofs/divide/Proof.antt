@@ -4,8 +4,8 @@ use Prim.Native.Nat.{ℕ, _/_}
 use mathlib.Core.Path.{_≡_}
 use native.Mathlib.Omega.{arith}
 use borrow.Author.Needs.{needs}
-use Rattle.blockwise_estimator.proofs.divide.Statement.{statement}
-use Rattle.blockwise_estimator.proofs.divide.Tie as tie
+use Rattle.stats.proofs.divide.Statement.{statement}
+use Rattle.stats.proofs.divide.Tie as tie
 
 by-one : (n : ℕ) → n ≡ n / 1
 by-one n = omega arith

@@ -1,10 +1,10 @@
 -- `values_of` meets its contract, by cases.
 -- Assumes nothing.
 use mathlib.Core.Path.{sym, ap}
 use Rattle.reading.specs.Stretch.{counted}
 use borrow.Author.Needs.{needs}
-use Rattle.checking.proofs.rows.values_of.Statement.{statement}
-use Rattle.checking.proofs.rows.values_of.Tie as tie
+use Rattle.reading.proofs.taking.values_of.Statement.{statement}
+use Rattle.reading.proofs.taking.values_of.Tie as tie
 
 enum-known-stretch : tie.Need-enum-known-stretch
 enum-known-stretch c = search needs
