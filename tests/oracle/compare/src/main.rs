@@ -11,7 +11,7 @@ mod typed;
 
 use std::process::ExitCode;
 
-use hulemartob::{Column, Refusal, column_stats, most_bytes, serialize_into};
+use hulemartob::{Column, Mismatch, Refusal, check, column_stats, most_bytes, serialize_into};
 use lists::Random;
 use tally::{Cause, Tally};
 
@@ -234,6 +234,27 @@ fn compare_column(tally: &mut Tally, random: &mut Random, bytes: &[u8], values: 
     }
 }
 
+/// What the Rust wrote is passed for its list under both sheets, and not for another; of a damaged column that is passed the Rust reads the list too.
+fn compare_checks(tally: &mut Tally, bytes: &[u8], values: &[u64], whose: &str) {
+    let passed = [1, 2].map(|sheet| check(sheet, bytes, values));
+    let mut right = true;
+    if whose == "written" {
+        right = passed == [Ok(()), Ok(())];
+        let mut other = values.to_vec();
+        if let Some(value) = other.get_mut(values.len() / 2) {
+            *value = value.wrapping_add(1);
+            right &= check(1, bytes, &other) == Err(Mismatch::Unequal { row: values.len() as u32 / 2 });
+        }
+    } else if passed[0].is_err() {
+        return;
+    }
+    if right && rust::open(bytes).and_then(|column| column.run(0, values.len())).as_deref() == Ok(values) {
+        tally.alike(format!("{whose} columns passed for their list"), 1);
+    } else {
+        tally.differ("check", None, bytes.len(), || format!("{} {values:?}: {passed:?}", hex(bytes)));
+    }
+}
+
 fn compare_list(tally: &mut Tally, random: &mut Random, values: &[u64]) {
     compare_statistics(tally, values);
     if ties(values) {
@@ -247,9 +268,11 @@ fn compare_list(tally: &mut Tally, random: &mut Random, values: &[u64]) {
             continue;
         }
         compare_column(tally, random, &column, values, "written");
+        compare_checks(tally, &column, values, "written");
         for _ in 0..4 {
             let damaged = lists::damaged(random, &column);
             compare_column(tally, random, &damaged, values, "damaged");
+            compare_checks(tally, &damaged, values, "damaged");
         }
     }
 }
