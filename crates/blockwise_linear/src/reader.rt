@@ -34,7 +34,7 @@ use format::Window;
 use line::FieldsRead;
 
 // A block of a table that has none.
-const NO_BLOCK: Block = Block {
+pub(crate) const NO_BLOCK: Block = Block {
     line: Line {
         slope: 0,
         intercept: 0,
@@ -105,7 +105,7 @@ fn footer_fits(bytes: &[u8], next: usize) -> bool
 }
 
 // The place of the first block of so many rows: where the footer starts.
-fn first(bytes: &[u8], rows: u32) -> Cursor
+pub(crate) fn first(bytes: &[u8], rows: u32) -> Cursor
     ensures { λ r. ⌜ r ≡ firstCursor (now (bytes .entry)) rows ⌝ }
 {
     let end = footer_end(bytes);
@@ -217,7 +217,7 @@ pub fn load(bytes: &[u8], head: Head, room: usize) -> Opened
 }
 
 // Internal: asks for a block that was checked, and that the area's bytes can be counted. The block at a place.
-fn next_block(bytes: &[u8], c: Cursor) -> Step
+pub(crate) fn next_block(bytes: &[u8], c: Cursor) -> Step
     requires { ⌜ Small c ⌝ }
     requires { ⌜ Good (stepIn (now bytes) c) ⌝ }
     ensures { λ r. ⌜ stepIn (now (bytes .entry)) c ≡ value r ⌝ }
