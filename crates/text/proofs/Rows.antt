@@ -1,5 +1,5 @@
 -- What the rows of a column answer that a program opened.
---     here-rows           its window has all rows
+--     here-first, here-rows     its window has all rows
 --     here-lacking        a row that it lacks: 12
 --     here-answers        a lent table that was filled answers as the opening's own numbers do
 --     here-sayable        an answer is one that a line has room for
@@ -62,8 +62,8 @@ asked-sayable r (refusal number also) h = h
 
 module _ (s : List ℕ) (o : Loaded) (found : openedHere s ≡ value o) where
   -- its window is the whole column
-  from : 0 ≡ o .column .window .first
-  from = ap (λ (l : Loaded). l .column .window .first) (opened-whole s 2048 o (here-opened s o found))
+  pub here-first : 0 ≡ o .column .window .first
+  here-first = ap (λ (l : Loaded). l .column .window .first) (opened-whole s 2048 o (here-opened s o found))
 
   pub here-rows : o .column .rows ≡ o .column .window .rows
   here-rows = ap (λ (l : Loaded). l .column .window .rows) (opened-whole s 2048 o (here-opened s o found))
@@ -78,7 +78,7 @@ module _ (s : List ℕ) (o : Loaded) (found : openedHere s ≡ value o) where
   here-answers table enough r =
       ⊎-elim
       (λ inside. let laid = opened-laid s 2048 o (here-opened s o found) in
-      filled-row o table s r (omega (arith, laid .table)) (laid .rows .present (columnRow (o .column) r) (omega (arith, from))))
+      filled-row o table s r (omega (arith, laid .table)) (laid .rows .present (columnRow (o .column) r) (omega (arith, here-first))))
       (λ over. here-lacking r (filledBy o table) over ∙ sym (here-lacking r (o .table) over))
       (below-or r (o .column .rows))
 
