@@ -32,13 +32,17 @@ ownRow c s r = rowAt c (tableOf (openedHere s)) s r
 abbrev pub blockRows : Column → ℕ
 blockRows c = blocked (c .codec) (c .rows)
 
--- a pass over them, before the first
+-- a column, with a pass over them before the first
 abbrev pub ownFirst : (s : List ℕ) → Column → Own
 ownFirst s c = record { column = c; pass = passed s (blockRows c) 0 }
 
--- and at the block of a row
+-- the pass at the block of a row
 abbrev pub passAt : (s : List ℕ) → Column → (r : ℕ) → Pass
 passAt s c r = passed s (blockRows c) (min (r / 512 + 1) (blockCount (blockRows c)))
+
+-- and the column with it
+abbrev pub ownAt : (s : List ℕ) → Column → (r : ℕ) → Own
+ownAt s c r = record { column = c; pass = passAt s c r }
 
 -- a program opens a column of some bytes
 pub record Opens (s : List ℕ) (c : Column) : Type 0 where

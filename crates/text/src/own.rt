@@ -4,7 +4,7 @@ ghost use mathlib.Core.Path.{_≡_};
 ghost use lib.ListN.{length};
 ghost use Rattle.format.specs.Refusals.{rowMeaning};
 ghost use Rattle.text.specs.Holding.{Values};
-ghost use Rattle.text.specs.Own.{ownRow, blockRows, ownFirst, passAt, Owned, AtRow};
+ghost use Rattle.text.specs.Own.{ownRow, blockRows, ownFirst, passAt, ownAt, Owned, AtRow};
 use blockwise_linear::passing::Pass;
 use format::Block;
 use format::Codec;
@@ -52,7 +52,7 @@ pub(crate) fn pass_at(column: Column, bytes: &[u8], pass: Pass, row: u32) -> Pas
 // Internal: asks for the same. The column at the block of a row.
 pub fn reach(own: Own, bytes: &[u8], row: u32) -> Own
     requires { ⌜ Owned (now bytes) (own .column) (own .pass) ⌝ }
-    ensures { λ r. ⌜ (r .column ≡ own .column) × (r .pass ≡ passAt (now (bytes .entry)) (own .column) row) ⌝ }
+    ensures { λ r. ⌜ r ≡ ownAt (now (bytes .entry)) (own .column) row ⌝ }
 {
     let column = own.column;
     let pass = pass_at(column, bytes, own.pass, row);
