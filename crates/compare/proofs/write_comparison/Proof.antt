@@ -2,6 +2,7 @@
 -- Assumes nothing.
 use Rattle.io.specs.Counts.{Counts}
 use borrow.Author.Needs.{needs}
+use Rattle.comparison.proofs.Beginnings.{begun-owned}
 use Rattle.compare.proofs.write_comparison.Statement.{statement}
 use Rattle.compare.proofs.write_comparison.Tie as tie
 
@@ -34,7 +35,10 @@ slice-aggregate-write-rows : tie.Need-slice-aggregate-write-rows
 slice-aggregate-write-rows c = search needs
 
 write-rows-requires : tie.Need-write-rows-requires
-write-rows-requires c κs = ?
+write-rows-requires c κs =
+    let o = c .before .before .before in
+    let both = begun-owned (rw (o .own .given .1) at (o .before .before .begin .ensures)) in
+    (both .0, (both .1, search needs))
 
 returns : tie.Need-returns
 returns c = search needs

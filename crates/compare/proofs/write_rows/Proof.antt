@@ -5,7 +5,6 @@ use mathlib.Core.Path.{_≡_, refl, sym, ap, _∙_, subst}
 use native.Mathlib.Omega.{arith}
 use lib.ListN.{length}
 use denote.Ref.{now}
-use Rattle.format.specs.declared.Column.{Column}
 use Rattle.text.specs.declared.own.Own.{Own}
 use Rattle.text.specs.Own.{ownRow, Owned}
 use Rattle.text.proofs.Owns.{owned-at}
