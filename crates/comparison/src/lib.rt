@@ -96,8 +96,12 @@ pub fn fill_lines(
         if out.len() - done.bytes < LINE_MAX {
             break;
         }
-        lheld = text::held::hold(column, lbytes, r, lheld, &mut lvalues);
-        rheld = text::held::hold(against, rbytes, r, rheld, &mut rvalues);
+        if lheld.block != r / 512 {
+            lheld = text::held::hold(column, lbytes, r, lheld, &mut lvalues);
+        }
+        if rheld.block != r / 512 {
+            rheld = text::held::hold(against, rbytes, r, rheld, &mut rvalues);
+        }
         let a = text::held::answer(column, lbytes, r, lheld, &lvalues);
         let b = text::held::answer(against, rbytes, r, rheld, &rvalues);
         done = lines::put_row(out, done, r, a, b);
