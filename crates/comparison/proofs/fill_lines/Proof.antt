@@ -1,13 +1,13 @@
 -- `fill_lines` meets its contract. The invariant is `Pairing`, with what the values at hand of both sides hold; the measure is the number of rows left.
 -- Assumes nothing.
 use Prim.Native.Nat.{_+_, _-_, _^_, _<_, max}
-use mathlib.Core.Path.{_≡_, refl}
+use mathlib.Core.Path.{_≡_, refl, sym}
 use mathlib.Core.Logic.{⊎-elim}
 use native.Mathlib.Omega.{arith}
 use lib.ListN.{length}
 use denote.Ref.{now}
-use Rattle.format.specs.Reading.{rowAt}
-use Rattle.text.specs.Holding.{Holds}
+use Rattle.text.specs.Holding.{Holds, HoldsAt}
+use Rattle.text.specs.Own.{ownRow}
 use Rattle.text.proofs.Chunks.{chunk-none, chunk-full}
 use Rattle.text.proofs.Holding.{holds-nothing}
 use Rattle.text.proofs.Texts.{counts}
@@ -17,13 +17,13 @@ use Rattle.comparison.proofs.fill_lines.Statement.{statement}
 use Rattle.comparison.proofs.fill_lines.Tie as tie
 
 abbrev Inv-loop : tie.InvT-loop
-Inv-loop left ltable lbytes right rtable rbytes from out₀ rows lvalues₀ rvalues₀ lheld₀ rheld₀ r₀ done₀ out lvalues rvalues lheld rheld r done =
-    Pairing (rowAt left ltable lbytes) (rowAt right rtable rbytes) (max (left .window .rows) (right .window .rows)) from out₀ out r (done .lines) (done .bytes) × (rows ≡ max (left .window .rows) (right .window .rows))
-    × Holds (rowAt left ltable lbytes) lheld lvalues
-    × Holds (rowAt right rtable rbytes) rheld rvalues
+Inv-loop lbytes rbytes from out₀ column against rows lvalues₀ rvalues₀ lheld₀ rheld₀ r₀ done₀ out lvalues rvalues lheld rheld r done =
+    Pairing (ownRow column lbytes) (ownRow against rbytes) (max (column .window .rows) (against .window .rows)) from out₀ out r (done .lines) (done .bytes) × (rows ≡ max (column .window .rows) (against .window .rows))
+    × Holds lbytes column lheld lvalues
+    × Holds rbytes against rheld rvalues
 
 abbrev μ-loop : tie.MeasureT-loop
-μ-loop left ltable lbytes right rtable rbytes from out₀ rows lvalues₀ rvalues₀ lheld₀ rheld₀ r₀ done₀ out lvalues rvalues lheld rheld r done = rows - r
+μ-loop lbytes rbytes from out₀ column against rows lvalues₀ rvalues₀ lheld₀ rheld₀ r₀ done₀ out lvalues rvalues lheld rheld r done = rows - r
 
 row-count-requires : tie.Need-row-count-requires Inv-loop μ-loop
 row-count-requires c κs = tt
@@ -36,22 +36,47 @@ nothing-requires-2 c κs = tt
 
 loop-holds : tie.Need-loop-holds Inv-loop μ-loop
 loop-holds c =
-    (pairing-starts _ _ _ _ _, c .before .before .row-count .ensures, holds-nothing _ _ _ refl (c .before .nothing .ensures), holds-nothing _ _ _ refl (c .nothing2 .ensures))
+    let left = c .before .nothing .ensures in
+    let right = c .nothing2 .ensures in
+    let s = c .before .before .before .before .before .before .before .before in
+    (pairing-starts _ _ _ _ _, c .before .before .row-count .ensures, holds-nothing _ (s .pre .0) (left .0) (left .1) (left .2) refl, holds-nothing _ (s .pre .1) (right .0) (right .1) (right .2) refl)
 
 sub-if1 : tie.Need-sub-if1 Inv-loop μ-loop
 sub-if1 c = omega arith
 
 hold-requires : tie.Need-hold-requires Inv-loop μ-loop
-hold-requires c κs = c .before .before .before .before .loop .inv .2
+hold-requires c κs = c .before .before .before .before .before .before .loop .inv .2
+
+-- the left list holds what is said, of the row's block
+held-left : (c : tie.Joined2 Inv-loop μ-loop) →
+    let at = c .before .before .before .before .before in
+    let s = at .before .before .before .before .before .before .before .before .before in
+    HoldsAt (now (s .args .lbytes)) (s .args .left .column) (at .loop .r) (c .if2 .lheld) (c .if2 .lvalues)
+held-left c =
+    ⊎-elim
+    (λ w. rw (w .4, w .3) (w .2 .ensures))
+    (λ w. rw (w .2, w .1) (record { holds = c .before .before .before .before .before .loop .inv .2; at = λ _. sym (w .0 .left) }))
+    (c .if2 .came)
 
 hold-requires-2 : tie.Need-hold-requires-2 Inv-loop μ-loop
-hold-requires-2 c κs = c .before .before .before .before .before .before .loop .inv .3
+hold-requires-2 c κs = c .before .before .before .before .before .before .before .before .loop .inv .3
+
+-- so does the right one
+held-right : (c : tie.Joined3 Inv-loop μ-loop) →
+    let at = c .before .before .before .before .before .before .before in
+    let s = at .before .before .before .before .before .before .before .before .before in
+    HoldsAt (now (s .args .rbytes)) (s .args .right .column) (at .loop .r) (c .if3 .rheld) (c .if3 .rvalues)
+held-right c =
+    ⊎-elim
+    (λ w. rw (w .4, w .3) (w .2 .ensures))
+    (λ w. rw (w .2, w .1) (record { holds = c .before .before .before .before .before .before .before .loop .inv .3; at = λ _. sym (w .0 .left) }))
+    (c .if3 .came)
 
 answer-requires : tie.Need-answer-requires Inv-loop μ-loop
-answer-requires c κs = c .before .before .before .hold .ensures
+answer-requires c κs = held-left (c .before .before .before)
 
 answer-requires-2 : tie.Need-answer-requires-2 Inv-loop μ-loop
-answer-requires-2 c κs = c .before .before .before .hold2 .ensures
+answer-requires-2 c κs = held-right (c .before .before .before)
 
 -- a row that is looked at has one behind it
 few : (c : tie.In-loop Inv-loop μ-loop) → c .before .loop .r + 1 < 2 ^ 32
@@ -80,12 +105,12 @@ loop-again c =
       pairing-more (at .0) (omega (arith, turn .loop-test .taken, at .1)) (omega (arith, free .if1 .left)) (said .before .before .answer .ensures) (said .answer2 .ensures)
           (wrote .0) (wrote .1 .0) (wrote .1 .1),
       at .1,
-      kept .before .before .hold .ensures,
-      kept .hold2 .ensures,
+      held-left (kept .before .before) .holds,
+      held-right kept .holds,
     )
 
-sub-t27 : tie.Need-sub-t27 Inv-loop μ-loop
-sub-t27 c = omega (arith, c .before .loop .inv .0 .text .start)
+sub-t28 : tie.Need-sub-t28 Inv-loop μ-loop
+sub-t28 c = omega (arith, c .before .loop .inv .0 .text .start)
 
 same-length : tie.Need-same-length Inv-loop μ-loop
 same-length c = c .before .loop .inv .0 .text .kept
@@ -93,7 +118,7 @@ same-length c = c .before .loop .inv .0 .text .kept
 -- the loop is left where no row is left, or no room
 none-left : (c : tie.Left-loop Inv-loop μ-loop) →
     let a = c .before .before .before .before .before .before .before .before .before .before .args in
-    pairRows (rowAt (a .left) (now (a .ltable)) (now (a .lbytes))) (rowAt (a .right) (now (a .rtable)) (now (a .rbytes))) (max (a .left .window .rows) (a .right .window .rows))
+    pairRows (ownRow (a .left .column) (now (a .lbytes))) (ownRow (a .right .column) (now (a .rbytes))) (max (a .left .column .window .rows) (a .right .column .window .rows))
     (length (a .out .now) - c .before .loop .done .bytes) (c .before .loop .r) ≡ 0
 none-left c = ⊎-elim (λ w. chunk-none _ _ _ _ _ (omega (arith, w .left))) (λ w. chunk-full _ _ _ _ _ (omega (arith, w .2 .taken))) (c .loop-test .came)
 
@@ -121,6 +146,6 @@ fill-lines-spec =
     add-r
     loop-less
     loop-again
-    sub-t27
+    sub-t28
     same-length
     returns)
