@@ -1,5 +1,4 @@
-// Opening within a program's limits. It decides on the bytes alone and fills the table afterwards, so that who opens two columns can
-// refuse both before either table is touched.
+// Opening within a program's limits. It decides on the bytes alone; who reads by a table has it filled afterwards.
 ghost use mathlib.Core.Path.{_≡_};
 ghost use Rattle.format.specs.Listing.{openedHere};
 ghost use Rattle.format.specs.Opening.{columnIn, tableIn};
@@ -40,7 +39,7 @@ pub fn open_plain(bytes: &[u8]) -> Opened
 }
 
 // Internal: asks for what `open_plain` answers for these bytes. Puts a column's blocks into the lent table.
-pub fn fill(bytes: &[u8], opened: Opened, table: &mut [u64; 8192])
+fn fill(bytes: &[u8], opened: Opened, table: &mut [u64; 8192])
     requires { ⌜ openedMeaning opened ≡ columnIn (openedHere (now bytes)) ⌝ }
     ensures { λ _. ⌜ now (table .exit) ≡ stored (tableIn (openedHere (now (bytes .entry)))) (now (table .entry)) ⌝ }
 {
