@@ -1,3 +1,12 @@
+use Prim.Native.Nat.{_+_, _-_, _≤_, _<_, _^_}
+use mathlib.Core.Path.{_≡_}
+use native.Mathlib.Omega.{arith}
+use lib.ListN.{length}
+use denote.Ref.{now}
+use Rattle.format.specs.Parts.{partsOf}
+use Rattle.explanation.proofs.Explanations.{taken}
+use Rattle.explanation.proofs.Placing.{parts-few}
+use borrow.Author.Needs.{needs}
 use Rattle.explain.proofs.write_parts.Statement.{statement}
 use Rattle.explain.proofs.write_parts.Tie as tie
 use Rattle.explain.proofs.write_parts.Reads as reads
@@ -6,58 +15,77 @@ use Rattle.explanation.proofs.fill_lines.Reads as fill-lines-reads
 use Rattle.io.proofs.write_all.Reads as write-all-reads
 
 abbrev Inv-loop : tie.InvT-loop
-Inv-loop column bytes out₀ from₀ out from = ?
+Inv-loop column bytes out₀ from₀ out from = (from ≤ length (partsOf bytes column)) × (length out ≡ length out₀)
 
 abbrev μ-loop : tie.MeasureT-loop
-μ-loop column bytes out₀ from₀ out from = ?
+μ-loop column bytes out₀ from₀ out from = length (partsOf bytes column) - from
+
+-- rows are counted in 32 bits, so parts can be counted
+few : (c : tie.After-slice-known Inv-loop μ-loop) → let a = c .before .before .args in length (partsOf (now (a .bytes)) (a .column)) < 2 ^ 40
+few c =
+    let a = c .before .before .args in
+    parts-few (now (a .bytes)) (a .column) (omega arith)
+
+-- after a call that took parts
+went : (c : tie.Else1 Inv-loop μ-loop) →
+    let called = c .before .before .before .before in
+    let at = called .before .before in
+    let a = at .before .before .before .args in
+    (0 < called .fill-lines .result .parts) × (at .loop .from + called .fill-lines .result .parts ≤ length (partsOf (now (a .bytes)) (a .column)))
+went c =
+    let called = c .before .before .before .before in
+    let at = called .before .before in
+    let a = at .before .before .before .args in
+    let some : 0 < called .fill-lines .result .parts = omega (arith, c .if1 .left) in
+    (some, taken (now (a .bytes)) (a .column) (length (at .loop .out)) (at .loop .from) (called .fill-lines .result) (called .fill-lines .ensures .0) some)
 
 -- src/main.rt:10:5
 loop-holds : tie.Need-loop-holds Inv-loop μ-loop
-loop-holds c = ?
+loop-holds c = omega arith
 
 -- src/main.rt:11:13
 fill-lines-requires : tie.Need-fill-lines-requires Inv-loop μ-loop
-fill-lines-requires c κs = ?
+fill-lines-requires c κs = tt
 
 -- src/main.rt:13:13
 same-length : tie.Need-same-length Inv-loop μ-loop
-same-length c = ?
+same-length c = omega (arith, c .before .before .before .before .fill-lines .kept)
 
 -- src/main.rt:13:13
 returns : tie.Need-returns Inv-loop μ-loop
-returns c = ?
+returns c = tt
 
 -- src/main.rt:16:42
 slice-reshare-prefix-write-all : tie.Need-slice-reshare-prefix-write-all Inv-loop μ-loop
-slice-reshare-prefix-write-all c = ?
+slice-reshare-prefix-write-all c = c .before .before .before .before .fill-lines .ensures .1 .1 .0
 
 -- src/main.rt:16:42
 slice-aggregate-write-all : tie.Need-slice-aggregate-write-all Inv-loop μ-loop
-slice-aggregate-write-all c = ?
+slice-aggregate-write-all c = c .before .before .before .before .before .fill-lines .ensures .1 .1 .1
 
 -- src/main.rt:16:13
 write-all-requires : tie.Need-write-all-requires Inv-loop μ-loop
-write-all-requires c κs = ?
+write-all-requires c κs = tt
 
 -- src/main.rt:17:13
 same-length-2 : tie.Need-same-length-2 Inv-loop μ-loop
-same-length-2 c = ?
+same-length-2 c = omega (arith, c .before .before .before .before .before .before .before .fill-lines .kept)
 
 -- src/main.rt:17:13
 returns-2 : tie.Need-returns-2 Inv-loop μ-loop
-returns-2 c = ?
+returns-2 c = tt
 
 -- src/main.rt:19:9
 add-from : tie.Need-add-from Inv-loop μ-loop
-add-from c = ?
+add-from c = omega (arith, went (c .before .before .before .before), few (c .before .before .before .before .before .before .before .before .before .before .before))
 
 -- src/main.rt:10:5
 loop-less : tie.Need-loop-less Inv-loop μ-loop
-loop-less c = ?
+loop-less c = omega (arith, went (c .before .before .before .before))
 
 -- src/main.rt:10:5
 loop-again : tie.Need-loop-again Inv-loop μ-loop
-loop-again c = ?
+loop-again c = omega (arith, went (c .before .before .before .before), c .before .before .before .before .before .before .before .before .fill-lines .kept)
 
 pub write-parts-spec : {M : Type 1} → statement M
 write-parts-spec =
