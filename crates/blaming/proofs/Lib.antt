@@ -1,0 +1,10 @@
+-- Laws; the head of each file lists what it offers.
+
+-- how a blame begins
+pub mod Beginnings
+pub mod FirstField
+-- the rows of a byte, and counting
+pub mod FewRows
+pub mod Tallies
+pub mod RowTexts
+pub mod Offsets
