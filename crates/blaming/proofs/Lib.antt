@@ -5,6 +5,10 @@ pub mod Beginnings
 pub mod FirstField
 -- the rows of a byte, and counting
 pub mod FewRows
-pub mod Tallies
 pub mod RowTexts
+pub mod Tallies
+-- by the tests
 pub mod Offsets
+-- what the calls come to
+pub mod Blames
+pub mod Determined

@@ -35,15 +35,15 @@ module _ (col : Column) (table s : List ℕ) (against : Column) (other t : List 
   unfolding textAt
   text-rows first last e some = rw (e, some)
 
-module _ {o p : Outcome Loaded} (s t : List ℕ) where
+module _ (o p : Outcome Loaded) (s t : List ℕ) where
   pub starts-left : {number : ℕ} → Refuses o number → starts o p s t ≡ only (namedLine (ascii "left refused ") number)
   starts-left r = rw (r .is)
 
-  module _ {c d : Column} (u : Opens o c) where
+  module _ {c : Column} (u : Opens o c) where
     pub starts-right : {number : ℕ} → Refuses p number → starts o p s t ≡ only (namedLine (ascii "right refused ") number)
     starts-right r = rw (u .is, r .is)
 
-    module _ (w : Opens p d) where
+    module _ {d : Column} (w : Opens p d) where
       pub starts-lengths : eqb (length s) (length t) ≡ false → starts o p s t ≡ only (lengthsLine (length s) (length t))
       starts-lengths e = rw (u .is, w .is, e)
 

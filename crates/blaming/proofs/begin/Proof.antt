@@ -1,6 +1,7 @@
 use mathlib.Core.Path.{sym, _∙_}
 use borrow.Author.Tests.{eq-eqb, ne-eqb}
 use denote.Ref.{now}
+use Rattle.format.specs.Listing.{openedHere}
 use Rattle.format.specs.Refusals.{openedMeaning}
 use Rattle.format.proofs.Outcomes.{told}
 use Rattle.blaming.proofs.Beginnings.{column-found, refused-found, begun-only, begun-both}
@@ -52,7 +53,7 @@ returns c =    let number = c .before .before .before in
     let refused = number .before in
     let first = refused .before .before in
     let a = first .before .before .before .args in
-    begun-only (starts-left (now (a .left)) (now (a .right)) (refused-found _ (first .open-plain .ensures) (refused .enum-told .given .1) (number .refusal-number .ensures))) (c .named-line .ensures .0) (c .named-line .ensures .1)
+    begun-only (starts-left (openedHere (now (a .left))) (openedHere (now (a .right))) (now (a .left)) (now (a .right)) (refused-found (openedHere (now (a .left))) (first .open-plain .ensures) (refused .enum-told .given .1) (number .refusal-number .ensures))) (c .named-line .ensures .0) (c .named-line .ensures .1)
 
 -- src/lib.rt:59:9
 open-plain-requires-2 : tie.Need-open-plain-requires-2
@@ -90,7 +91,7 @@ returns-2 c =    let number = c .before .before .before in
     let was = second .before .before in
     let first = was .before .before in
     let a = first .before .before .before .args in
-    begun-only (starts-right (now (a .left)) (now (a .right)) (column-found _ (first .open-plain .ensures) (was .opened .given .1)) (refused-found _ (second .open-plain2 .ensures) (refused .enum-told2 .given .1) (number .refusal-number2 .ensures))) (c .named-line2 .ensures .0) (c .named-line2 .ensures .1)
+    begun-only (starts-right (openedHere (now (a .left))) (openedHere (now (a .right))) (now (a .left)) (now (a .right)) (column-found (openedHere (now (a .left))) (first .open-plain .ensures) (was .opened .given .1)) (refused-found (openedHere (now (a .right))) (second .open-plain2 .ensures) (refused .enum-told2 .given .1) (number .refusal-number2 .ensures))) (c .named-line2 .ensures .0) (c .named-line2 .ensures .1)
 
 -- src/lib.rt:65:28
 lengths-line-requires : tie.Need-lengths-line-requires
@@ -104,7 +105,7 @@ returns-3 c =    let test = c .before .before in
     let was = second .before .before in
     let first = was .before .before in
     let a = first .before .before .before .args in
-    begun-only (starts-lengths (now (a .left)) (now (a .right)) (column-found _ (first .open-plain .ensures) (was .opened .given .1)) (column-found _ (second .open-plain2 .ensures) (is .other .given .1)) (ne-eqb _ _ (test .if1 .taken))) (c .lengths-line .ensures .0) (c .lengths-line .ensures .1)
+    begun-only (starts-lengths (openedHere (now (a .left))) (openedHere (now (a .right))) (now (a .left)) (now (a .right)) (column-found (openedHere (now (a .left))) (first .open-plain .ensures) (was .opened .given .1)) (column-found (openedHere (now (a .right))) (second .open-plain2 .ensures) (is .other .given .1)) (ne-eqb _ _ (test .if1 .taken))) (c .lengths-line .ensures .0) (c .lengths-line .ensures .1)
 
 -- src/lib.rt:67:38
 first-field-requires : tie.Need-first-field-requires
@@ -128,7 +129,7 @@ returns-4 c =    let at = c .before .before .before in
     let was = second .before .before in
     let first = was .before .before in
     let a = first .before .before .before .args in
-    begun-only (starts-field (now (a .left)) (now (a .right)) (column-found _ (first .open-plain .ensures) (was .opened .given .1)) (column-found _ (second .open-plain2 .ensures) (is .other .given .1)) (eq-eqb _ _ (test .if1 .left)) (sym (field .first-field .ensures) ∙ at .offset .given .1)) (c .field-line .ensures .0) (c .field-line .ensures .1)
+    begun-only (starts-field (openedHere (now (a .left))) (openedHere (now (a .right))) (now (a .left)) (now (a .right)) (column-found (openedHere (now (a .left))) (first .open-plain .ensures) (was .opened .given .1)) (column-found (openedHere (now (a .right))) (second .open-plain2 .ensures) (is .other .given .1)) (eq-eqb _ _ (test .if1 .left)) (sym (field .first-field .ensures) ∙ at .offset .given .1)) (c .field-line .ensures .0) (c .field-line .ensures .1)
 
 enum-told-3 : tie.Need-enum-told-3
 enum-told-3 c = search needs
@@ -155,9 +156,9 @@ returns-5 c =    let left = c .before .before in
     let was = second .before .before in
     let first = was .before .before in
     let a = first .before .before .before .args in
-    let u = column-found _ (first .open-plain .ensures) (was .opened .given .1) in
-    let w = column-found _ (second .open-plain2 .ensures) (is .other .given .1) in
-    begun-both u w (starts-both (now (a .left)) (now (a .right)) u w (eq-eqb _ _ (test .if1 .left)) (sym (field .first-field .ensures) ∙ none .enum-told3 .given .1)) (left .fill .ensures) (c .fill2 .ensures)
+    let u = column-found (openedHere (now (a .left))) (first .open-plain .ensures) (was .opened .given .1) in
+    let w = column-found (openedHere (now (a .right))) (second .open-plain2 .ensures) (is .other .given .1) in
+    begun-both u w (starts-both (openedHere (now (a .left))) (openedHere (now (a .right))) (now (a .left)) (now (a .right)) u w (eq-eqb _ _ (test .if1 .left)) (sym (field .first-field .ensures) ∙ none .enum-told3 .given .1)) (left .fill .ensures) (c .fill2 .ensures)
 
 pub begin-spec : {M : Type 1} → statement M
 begin-spec =

@@ -1,4 +1,7 @@
-use mathlib.Core.Path.{_≡_, refl, sym, subst}
+use Prim.Native.Nat.{ℕ, _+_, _-_, _^_, _<_, max}
+use mathlib.Core.Path.{_≡_, refl, sym, ap, _∙_, subst}
+use Rattle.format.specs.declared.Owners.the-variants.{Rows}
+use Rattle.blaming.specs.Bytes.{withByte}
 use native.Mathlib.Omega.{arith}
 use Rattle.blaming.specs.declared.counting.Tally.{Tally}
 use Rattle.blaming.specs.Chunk.{Counted}
@@ -49,7 +52,9 @@ add-t11 c = search needs
 
 -- src/counting.rt:43:23
 add-t10 : tie.Need-add-t10
-add-t10 c = ?
+add-t10 c =
+    let pre = c .before .before .before .before .before .before .before .pre in
+    omega (arith, pre .rows, pre .next, c .before .before .less .ensures)
 
 -- src/counting.rt:44:23
 larger-requires-2 : tie.Need-larger-requires-2
@@ -61,7 +66,18 @@ returns c = (rw (c .before .enum-told .given .1) refl, counted-none _ (c .before
 
 -- src/counting.rt:26:1
 returns-2 : tie.Need-returns-2
-returns-2 c = ?
+returns-2 c =
+    let told = c .before .before .before .before .before in
+    let k = told .before .before .before .args .tally in
+    let first = told .before .owners .given .0 .0 in
+    let last = told .before .owners .given .0 .1 .0 in
+    let small : last < 2 ^ 32 = omega arith in
+    let rows : k .rows + c .before .before .before .less .result ≡ k .rows + (last + 1 - max first (k .next)) =
+    ap (λ (n : ℕ). k .rows + n) (c .before .before .before .less .ensures ∙ ap (λ (n : ℕ). last + 1 - n) (c .before .before .before .before .larger .ensures)) in
+    let next = c .larger2 .ensures in
+    let same : _≡_ {A = Tally} (record { bytes = k .bytes + 1; rows = k .rows + c .before .before .before .less .result; next = c .larger2 .result }) (withByte k (Rows first last)) =
+    (λ i. record { bytes = k .bytes + 1; rows = rows i; next = next i }) in
+    (rw (told .before .owners .given .1) same, subst (λ (m : Tally). Counted k m) (sym same) (counted-rows k first last (told .before .before .before .pre) small))
 
 pub with-byte-spec : {M : Type 1} → statement M
 with-byte-spec =

@@ -24,7 +24,7 @@ few : (c : tie.After-first) →
     (first ≤ last) × (last < first + 8)
 few c =
     let found = c .before .before in
-    let a = found .before .before .before .before .before .before .before .before .before .before .before .before .args in
+    let a = found .before .before .before .before .before .before .before .before .before .before .before .before .before .args in
     rw (sym (found .owners-of .ensures) ∙ c .first .given .1) at (found-few (a .left) (now (a .ltable)) (now (a .lbytes)) (a .offset))
 
 -- src/rows.rt:74:8
@@ -55,7 +55,9 @@ enum-known-first c = search needs
 -- src/rows.rt:80:41
 put-rows-requires : tie.Need-put-rows-requires
 put-rows-requires c κs =    let told = c .before in
-    omega (arith, few (told .before), told .before .before .before .before .before .before .put-byte-line .ensures .1)
+    let line = told .before .before .before .before .before .before in
+    let pre = line .before .before .before .before .before .before .before .before .before .before .pre in
+    omega (arith, few (told .before), line .put-byte-line .ensures .1, line .put-byte-line .kept, pre)
 
 -- src/rows.rt:83:26
 enum-told : tie.Need-enum-told
