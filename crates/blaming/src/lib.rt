@@ -106,7 +106,7 @@ pub fn fill_lines(
 // that several bytes name is counted once.
 pub fn end_line(
     column: Column,
-    table: &[u64],
+    table: &[u64; 8192],
     left: &[u8],
     right: &[u8],
     line: &mut [u8; 128],

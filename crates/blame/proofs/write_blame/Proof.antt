@@ -54,10 +54,6 @@ write-bytes-requires c κs = search needs
 returns : tie.Need-returns
 returns c = search needs
 
--- src/main.rt:49:49
-slice-aggregate-end-line : tie.Need-slice-aggregate-end-line
-slice-aggregate-end-line c = search needs
-
 -- src/main.rt:49:17
 end-line-requires : tie.Need-end-line-requires
 end-line-requires c κs = search needs
@@ -96,7 +92,6 @@ write-blame-spec =
     slice-aggregate-write-bytes
     write-bytes-requires
     returns
-    slice-aggregate-end-line
     end-line-requires
     array-share-prefix-line-2
     slice-aggregate-write-all-2
