@@ -2,3 +2,4 @@ pub mod Columns
 pub mod Answering
 pub mod Naming
 pub mod Reporting
+pub mod Telling

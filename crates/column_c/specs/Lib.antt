@@ -1,3 +1,4 @@
+pub mod Explaining
 pub mod Numbers
 pub mod Replaying
 pub mod Typed
