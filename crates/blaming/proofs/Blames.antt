@@ -3,7 +3,7 @@
 --     blame-chunks      two columns: chunk after chunk, and the last line
 --     looked            a chunk with room looks at an offset at least, and at none but those that are left
 -- Assumes nothing.
-use Prim.Native.Nat.{ℕ, _+_, _-_, _≤_, _<_}
+use Prim.Native.Nat.{ℕ, _-_, _≤_, _<_}
 use mathlib.Core.Path.{_≡_, ap, _∙_}
 use mathlib.Core.List.{List, _++_}
 use native.Mathlib.Omega.{arith}

@@ -1,11 +1,10 @@
 -- The lines of rows, one behind the other.
 --     Written, written-starts, written-more      the loop that writes them
 -- Assumes nothing.
-use Prim.Native.Nat.{ℕ, zero, suc, _+_}
+use Prim.Native.Nat.{ℕ, _+_}
 use mathlib.Core.Path.{_≡_, refl, sym, ap, _∙_}
-use mathlib.Core.List.{List, [], _++_, append-nil}
+use mathlib.Core.List.{List, _++_, append-nil}
 use native.Mathlib.Nat.{add-zero}
-use lib.Seq.{sets}
 use Rattle.format.specs.Listing.{rowTexts}
 use Rattle.format.specs.Outcome.{Wrote}
 use Rattle.format.proofs.Stores.{wrote-then}

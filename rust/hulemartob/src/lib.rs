@@ -24,7 +24,8 @@
 //! # Ok::<(), hulemartob::Refusal>(())
 //! ```
 //!
-//! Lookups can be recorded ([`RecordingBuilder`], [`Recording`]) and rerun over a column: [`Column::replay`].
+//! Lookups can be recorded ([`RecordingBuilder`], [`Recording`]) and rerun over a column: [`Column::replay`]. What each byte of a column is, and which
+//! rows a byte holds, is [`Column::part_at`] and [`Column::rows_at`].
 //!
 //! The code here passes numbers on to the static library of the crate `column_c`, and makes room for what it answers; nothing of the
 //! format is decided in Rust. The library is compiled for x86-64.
@@ -33,6 +34,7 @@
 compile_error!("libcolumn_c.a is x86-64 code");
 
 mod ffi;
+mod parts;
 mod recording;
 mod refusal;
 mod typed;
@@ -41,6 +43,7 @@ use std::iter::FusedIterator;
 use std::ops::{Range, RangeInclusive};
 use std::sync::Arc;
 
+pub use parts::{Part, PartName};
 pub use recording::{Recorded, Recording, RecordingBuilder, Replay};
 pub use refusal::Refusal;
 pub use typed::{

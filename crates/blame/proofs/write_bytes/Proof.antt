@@ -6,13 +6,8 @@ use denote.Ref.{now}
 use Rattle.text.proofs.Chunks.{Took}
 use Rattle.blaming.specs.Bytes.{blameMax, textAt}
 use Rattle.blaming.proofs.Blames.{looked}
-use borrow.Author.Needs.{needs}
 use Rattle.blame.proofs.write_bytes.Statement.{statement}
 use Rattle.blame.proofs.write_bytes.Tie as tie
-use Rattle.blame.proofs.write_bytes.Reads as reads
-use Rattle.blame.proofs.write_bytes.Lts as lts
-use Rattle.blaming.proofs.fill_lines.Reads as fill-lines-reads
-use Rattle.io.proofs.write_all.Reads as write-all-reads
 
 abbrev Inv-loop : tie.InvT-loop
 Inv-loop left ltable lbytes right rtable rbytes out₀ from₀ out from = (from ≤ length lbytes) × (blameMax ≤ length out) × (length out ≡ length out₀)
@@ -30,52 +25,40 @@ took-here c =
     let a = turn .before .before .before .before .before .args in
     looked (textAt (a .left) (now (a .ltable)) (now (a .lbytes)) (a .right) (now (a .rtable)) (now (a .rbytes))) _ (length (turn .before .loop .out)) _ _ (c .fill-lines .ensures .0) (omega arith) (omega arith)
 
--- src/main.rt:24:5
 loop-holds : tie.Need-loop-holds Inv-loop μ-loop
 loop-holds c = omega arith
 
--- src/main.rt:25:13
 fill-lines-requires : tie.Need-fill-lines-requires Inv-loop μ-loop
 fill-lines-requires c κs = tt
 
--- src/main.rt:27:42
 slice-reshare-prefix-write-all : tie.Need-slice-reshare-prefix-write-all Inv-loop μ-loop
 slice-reshare-prefix-write-all c = c .before .before .fill-lines .ensures .1 .1 .0
 
--- src/main.rt:27:42
 slice-aggregate-write-all : tie.Need-slice-aggregate-write-all Inv-loop μ-loop
 slice-aggregate-write-all c = c .before .before .before .fill-lines .ensures .1 .1 .1
 
--- src/main.rt:27:13
 write-all-requires : tie.Need-write-all-requires Inv-loop μ-loop
 write-all-requires c κs = tt
 
--- src/main.rt:28:13
 same-length : tie.Need-same-length Inv-loop μ-loop
 same-length c = omega (arith, c .before .before .before .before .before .fill-lines .kept)
 
--- src/main.rt:28:13
 returns : tie.Need-returns Inv-loop μ-loop
 returns c = tt
 
--- src/main.rt:30:9
 add-from : tie.Need-add-from Inv-loop μ-loop
 add-from c = omega (arith, took-here (c .before .before .before .before .before .before))
 
--- src/main.rt:24:5
 loop-less : tie.Need-loop-less Inv-loop μ-loop
 loop-less c = omega (arith, took-here (c .before .before .before .before .before .before))
 
--- src/main.rt:24:5
 loop-again : tie.Need-loop-again Inv-loop μ-loop
 loop-again c =    let called = c .before .before .before .before .before .before in
     omega (arith, took-here called, called .fill-lines .kept)
 
--- src/main.rt:12:1
 same-length-2 : tie.Need-same-length-2 Inv-loop μ-loop
 same-length-2 c = omega arith
 
--- src/main.rt:12:1
 returns-2 : tie.Need-returns-2 Inv-loop μ-loop
 returns-2 c = tt
 

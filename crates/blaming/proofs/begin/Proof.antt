@@ -9,45 +9,28 @@ use Rattle.blaming.proofs.Offsets.{starts-left, starts-right, starts-le
 use borrow.Author.Needs.{needs}
 use Rattle.blaming.proofs.begin.Statement.{statement}
 use Rattle.blaming.proofs.begin.Tie as tie
-use Rattle.blaming.proofs.begin.Reads as reads
-use Rattle.blaming.proofs.begin.Lts as lts
-use Rattle.blaming.proofs.fields.first_field.Reads as first-field-reads
-use Rattle.blaming.proofs.lines.field_line.Reads as field-line-reads
-use Rattle.blaming.proofs.lines.lengths_line.Reads as lengths-line-reads
-use Rattle.text.proofs.lines.named_line.Reads as named-line-reads
-use Rattle.text.proofs.lines.refusal_number.Reads as refusal-number-reads
-use Rattle.text.proofs.opening.fill.Reads as fill-reads
-use Rattle.text.proofs.opening.open_plain.Reads as open-plain-reads
 
--- src/lib.rt:54:9
 open-plain-requires : tie.Need-open-plain-requires
 open-plain-requires c κs = search needs
 
--- src/lib.rt:55:24
 enum-known-opened : tie.Need-enum-known-opened
 enum-known-opened c = search needs
 
--- src/lib.rt:56:22
 enum-told : tie.Need-enum-told
 enum-told c = search needs
 
--- src/lib.rt:56:22
 refusal-number-requires : tie.Need-refusal-number-requires
 refusal-number-requires c κs = search needs
 
--- src/lib.rt:56:22
 cast-number : tie.Need-cast-number
 cast-number c = search needs
 
--- src/lib.rt:57:39
 slice-aggregate-named-line : tie.Need-slice-aggregate-named-line
 slice-aggregate-named-line c = search needs
 
--- src/lib.rt:57:28
 named-line-requires : tie.Need-named-line-requires
 named-line-requires c κs = search needs
 
--- src/lib.rt:57:9
 returns : tie.Need-returns
 returns c =    let number = c .before .before .before in
     let refused = number .before in
@@ -55,35 +38,27 @@ returns c =    let number = c .before .before .before in
     let a = first .before .before .before .args in
     begun-only (starts-left (openedHere (now (a .left))) (openedHere (now (a .right))) (now (a .left)) (now (a .right)) (refused-found (openedHere (now (a .left))) (first .open-plain .ensures) (refused .enum-told .given .1) (number .refusal-number .ensures))) (c .named-line .ensures .0) (c .named-line .ensures .1)
 
--- src/lib.rt:59:9
 open-plain-requires-2 : tie.Need-open-plain-requires-2
 open-plain-requires-2 c κs = search needs
 
--- src/lib.rt:60:24
 enum-known-other : tie.Need-enum-known-other
 enum-known-other c = search needs
 
--- src/lib.rt:61:22
 enum-told-2 : tie.Need-enum-told-2
 enum-told-2 c = search needs
 
--- src/lib.rt:61:22
 refusal-number-requires-2 : tie.Need-refusal-number-requires-2
 refusal-number-requires-2 c κs = search needs
 
--- src/lib.rt:61:22
 cast-number-2 : tie.Need-cast-number-2
 cast-number-2 c = search needs
 
--- src/lib.rt:62:39
 slice-aggregate-named-line-2 : tie.Need-slice-aggregate-named-line-2
 slice-aggregate-named-line-2 c = search needs
 
--- src/lib.rt:62:28
 named-line-requires-2 : tie.Need-named-line-requires-2
 named-line-requires-2 c κs = search needs
 
--- src/lib.rt:62:9
 returns-2 : tie.Need-returns-2
 returns-2 c =    let number = c .before .before .before in
     let refused = number .before in
@@ -93,11 +68,9 @@ returns-2 c =    let number = c .before .before .before in
     let a = first .before .before .before .args in
     begun-only (starts-right (openedHere (now (a .left))) (openedHere (now (a .right))) (now (a .left)) (now (a .right)) (column-found (openedHere (now (a .left))) (first .open-plain .ensures) (was .opened .given .1)) (refused-found (openedHere (now (a .right))) (second .open-plain2 .ensures) (refused .enum-told2 .given .1) (number .refusal-number2 .ensures))) (c .named-line2 .ensures .0) (c .named-line2 .ensures .1)
 
--- src/lib.rt:65:28
 lengths-line-requires : tie.Need-lengths-line-requires
 lengths-line-requires c κs = search needs
 
--- src/lib.rt:65:9
 returns-3 : tie.Need-returns-3
 returns-3 c =    let test = c .before .before in
     let is = test .before .before in
@@ -107,19 +80,15 @@ returns-3 c =    let test = c .before .before in
     let a = first .before .before .before .args in
     begun-only (starts-lengths (openedHere (now (a .left))) (openedHere (now (a .right))) (now (a .left)) (now (a .right)) (column-found (openedHere (now (a .left))) (first .open-plain .ensures) (was .opened .given .1)) (column-found (openedHere (now (a .right))) (second .open-plain2 .ensures) (is .other .given .1)) (ne-eqb _ _ (test .if1 .taken))) (c .lengths-line .ensures .0) (c .lengths-line .ensures .1)
 
--- src/lib.rt:67:38
 first-field-requires : tie.Need-first-field-requires
 first-field-requires c κs = search needs
 
--- src/lib.rt:67:22
 enum-known-offset : tie.Need-enum-known-offset
 enum-known-offset c = search needs
 
--- src/lib.rt:68:28
 field-line-requires : tie.Need-field-line-requires
 field-line-requires c κs = search needs
 
--- src/lib.rt:68:9
 returns-4 : tie.Need-returns-4
 returns-4 c =    let at = c .before .before .before in
     let field = at .before .before in
@@ -134,18 +103,15 @@ returns-4 c =    let at = c .before .before .before in
 enum-told-3 : tie.Need-enum-told-3
 enum-told-3 c = search needs
 
--- src/lib.rt:70:5
 fill-requires : tie.Need-fill-requires
 fill-requires c κs =    let is = c .before .before .before .before .before .before in
     let was = is .before .before .before .before in
     sym (told openedMeaning (was .before .before .open-plain .ensures) (was .opened .given .1))
 
--- src/lib.rt:71:5
 fill-requires-2 : tie.Need-fill-requires-2
 fill-requires-2 c κs =    let is = c .before .before .before .before .before .before .before .before in
     sym (told openedMeaning (is .before .before .open-plain2 .ensures) (is .other .given .1))
 
--- src/lib.rt:45:1
 returns-5 : tie.Need-returns-5
 returns-5 c =    let left = c .before .before in
     let none = left .before .before in

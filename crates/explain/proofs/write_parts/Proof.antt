@@ -6,13 +6,8 @@ use denote.Ref.{now}
 use Rattle.format.specs.Parts.{partsOf}
 use Rattle.explanation.proofs.Explanations.{taken}
 use Rattle.explanation.proofs.Placing.{parts-few}
-use borrow.Author.Needs.{needs}
 use Rattle.explain.proofs.write_parts.Statement.{statement}
 use Rattle.explain.proofs.write_parts.Tie as tie
-use Rattle.explain.proofs.write_parts.Reads as reads
-use Rattle.explain.proofs.write_parts.Lts as lts
-use Rattle.explanation.proofs.fill_lines.Reads as fill-lines-reads
-use Rattle.io.proofs.write_all.Reads as write-all-reads
 
 abbrev Inv-loop : tie.InvT-loop
 Inv-loop column bytes out₀ from₀ out from = (from ≤ length (partsOf bytes column)) × (length out ≡ length out₀)
@@ -39,51 +34,39 @@ went c =
     let some : 0 < called .fill-lines .result .parts = omega (arith, c .if1 .left) in
     (some, taken (now (a .bytes)) (a .column) (length (at .loop .out)) (at .loop .from) (called .fill-lines .result) (called .fill-lines .ensures .0) some)
 
--- src/main.rt:10:5
 loop-holds : tie.Need-loop-holds Inv-loop μ-loop
 loop-holds c = omega arith
 
--- src/main.rt:11:13
 fill-lines-requires : tie.Need-fill-lines-requires Inv-loop μ-loop
 fill-lines-requires c κs = tt
 
--- src/main.rt:13:13
 same-length : tie.Need-same-length Inv-loop μ-loop
 same-length c = omega (arith, c .before .before .before .before .fill-lines .kept)
 
--- src/main.rt:13:13
 returns : tie.Need-returns Inv-loop μ-loop
 returns c = tt
 
--- src/main.rt:16:42
 slice-reshare-prefix-write-all : tie.Need-slice-reshare-prefix-write-all Inv-loop μ-loop
 slice-reshare-prefix-write-all c = c .before .before .before .before .fill-lines .ensures .1 .1 .0
 
--- src/main.rt:16:42
 slice-aggregate-write-all : tie.Need-slice-aggregate-write-all Inv-loop μ-loop
 slice-aggregate-write-all c = c .before .before .before .before .before .fill-lines .ensures .1 .1 .1
 
--- src/main.rt:16:13
 write-all-requires : tie.Need-write-all-requires Inv-loop μ-loop
 write-all-requires c κs = tt
 
--- src/main.rt:17:13
 same-length-2 : tie.Need-same-length-2 Inv-loop μ-loop
 same-length-2 c = omega (arith, c .before .before .before .before .before .before .before .fill-lines .kept)
 
--- src/main.rt:17:13
 returns-2 : tie.Need-returns-2 Inv-loop μ-loop
 returns-2 c = tt
 
--- src/main.rt:19:9
 add-from : tie.Need-add-from Inv-loop μ-loop
 add-from c = omega (arith, went (c .before .before .before .before), few (c .before .before .before .before .before .before .before .before .before .before .before))
 
--- src/main.rt:10:5
 loop-less : tie.Need-loop-less Inv-loop μ-loop
 loop-less c = omega (arith, went (c .before .before .before .before))
 
--- src/main.rt:10:5
 loop-again : tie.Need-loop-again Inv-loop μ-loop
 loop-again c = omega (arith, went (c .before .before .before .before), c .before .before .before .before .before .before .before .before .fill-lines .kept)
 

@@ -1,5 +1,5 @@
-use Prim.Native.Nat.{_-_, _≤_, _<_, _^_}
-use mathlib.Core.Path.{_≡_, refl, sym, ap, _∙_}
+use Prim.Native.Nat.{_-_, _<_, _^_}
+use mathlib.Core.Path.{_≡_, sym, ap, _∙_}
 use mathlib.Core.Logic.{⊎-elim}
 use native.Mathlib.Omega.{arith}
 use lib.ListN.{length}
@@ -15,11 +15,6 @@ use Rattle.explanation.proofs.Placing.{Further, placed-more, placed-don
 use borrow.Author.Needs.{needs}
 use Rattle.explanation.proofs.fill_lines.Statement.{statement}
 use Rattle.explanation.proofs.fill_lines.Tie as tie
-use Rattle.explanation.proofs.fill_lines.Reads as reads
-use Rattle.explanation.proofs.fill_lines.Lts as lts
-use Rattle.explaining.proofs.next_part.Reads as next-part-reads
-use Rattle.explanation.proofs.lines.put_part.Reads as put-part-reads
-use Rattle.explanation.proofs.place_of.Reads as place-of-reads
 
 abbrev Inv-loop : tie.InvT-loop
 Inv-loop column bytes from out₀ place₀ p₀ at₀ out place p at = Filling (textAt bytes column) partMax (length (partsOf bytes column)) from out₀ out p at × Placed bytes column p place
@@ -41,46 +36,36 @@ further c =
     let a = n .before .before .before .before .before .before .args in
     placed-more (now (a .bytes)) (a .column) (n .before .before .loop .p) (n .before .before .loop .place) _ _ (sym (n .next-part .ensures) ∙ c .before .part .given .1) (n .before .before .loop .inv .1)
 
--- src/lib.rt:74:9
 place-of-requires : tie.Need-place-of-requires Inv-loop μ-loop
 place-of-requires c κs = search needs
 
--- src/lib.rt:77:5
 loop-holds : tie.Need-loop-holds Inv-loop μ-loop
 loop-holds c = (filling-starts _ _ _ _ _, c .place-of .ensures)
 
--- src/lib.rt:77:23
 sub-loop : tie.Need-sub-loop Inv-loop μ-loop
 sub-loop c = omega (arith, c .loop .inv .0 .room, c .loop .inv .0 .kept)
 
--- src/lib.rt:78:15
 next-part-requires : tie.Need-next-part-requires Inv-loop μ-loop
 next-part-requires c κs = search needs
 
--- src/lib.rt:79:29
 enum-told : tie.Need-enum-told Inv-loop μ-loop
 enum-told c = search needs
 
--- src/lib.rt:80:26
 enum-known-part : tie.Need-enum-known-part Inv-loop μ-loop
 enum-known-part c = search needs
 
--- src/lib.rt:81:17
 put-part-requires : tie.Need-put-part-requires Inv-loop μ-loop
 put-part-requires c κs = let n = c .before .before .before .before in
     omega (arith, n .before .loop-test .taken, n .before .before .loop .inv .0 .room, n .before .before .loop .inv .0 .kept)
 
--- src/lib.rt:83:17
 add-p : tie.Need-add-p Inv-loop μ-loop
 add-p c = let told = c .before .before .before .before in
     let a = told .before .before .before .before .before .before .before .before .before .args in
     omega (arith, further told .inside, parts-few (now (a .bytes)) (a .column) (few (told .before .before .before .before .before .before)))
 
--- src/lib.rt:77:5
 loop-less : tie.Need-loop-less Inv-loop μ-loop
 loop-less c = omega (arith, further (c .before .before .before .before) .inside)
 
--- src/lib.rt:77:5
 loop-again : tie.Need-loop-again Inv-loop μ-loop
 loop-again c = let put = c .before .before in
     let told = put .before .before in
@@ -89,11 +74,9 @@ loop-again c = let put = c .before .before in
     let here = ap (firstText (a .column)) (further told .here) in
     (filling-more (n .before .before .loop .inv .0) (further told .inside) (omega (arith, n .before .loop-test .taken)) (rw here (put .put-part .ensures .0)) (put .put-part .ensures .1), further told .placed)
 
--- src/lib.rt:88:16
 sub-t16 : tie.Need-sub-t16 Inv-loop μ-loop
 sub-t16 c = omega (arith, c .before .loop .inv .0 .start)
 
--- src/lib.rt:69:1
 same-length : tie.Need-same-length Inv-loop μ-loop
 same-length c = c .before .loop .inv .0 .kept
 
@@ -107,7 +90,6 @@ none-left c =
     (λ w. chunk-none _ _ _ _ _ (placed-done (now (a .bytes)) (a .column) (c .before .loop .p) (c .before .loop .place) (sym (w .1 .ensures) ∙ w .3 .given .1) (c .before .loop .inv .1)))
     (c .loop-test .came)
 
--- src/lib.rt:69:1
 returns : tie.Need-returns Inv-loop μ-loop
 returns c =
     let f = c .before .loop .inv .0 in

@@ -7,9 +7,6 @@ use Rattle.explanation.proofs.Placing.{placed-starts, placed-more, plac
 use borrow.Author.Needs.{needs}
 use Rattle.explanation.proofs.place_of.Statement.{statement}
 use Rattle.explanation.proofs.place_of.Tie as tie
-use Rattle.explanation.proofs.place_of.Reads as reads
-use Rattle.explanation.proofs.place_of.Lts as lts
-use Rattle.explaining.proofs.next_part.Reads as next-part-reads
 
 abbrev Inv-loop : tie.InvT-loop
 Inv-loop column bytes number place₀ k₀ place k = Placed bytes column k place × (k ≤ number)
@@ -17,43 +14,34 @@ Inv-loop column bytes number place₀ k₀ place k = Placed bytes column k place
 abbrev μ-loop : tie.MeasureT-loop
 μ-loop column bytes number place₀ k₀ place k = number - k
 
--- src/lib.rt:55:5
 loop-holds : tie.Need-loop-holds Inv-loop μ-loop
 loop-holds c = (placed-starts _ _, omega arith)
 
--- src/lib.rt:56:15
 next-part-requires : tie.Need-next-part-requires Inv-loop μ-loop
 next-part-requires c κs = search needs
 
--- src/lib.rt:57:29
 enum-told : tie.Need-enum-told Inv-loop μ-loop
 enum-told c = search needs
 
--- src/lib.rt:57:29
 returns : tie.Need-returns Inv-loop μ-loop
 returns c = let n = c .before .before in
     let s = n .before .before .before .before .args in
     placed-past (now (s .bytes)) (s .column) (n .before .before .loop .k) (s .number) (n .before .before .loop .place) (sym (n .next-part .ensures) ∙ c .enum-told .given .1) (n .before .before .loop .inv .0) (omega arith)
 
--- src/lib.rt:58:29
 enum-known-next : tie.Need-enum-known-next Inv-loop μ-loop
 enum-known-next c = search needs
 
--- src/lib.rt:60:17
 add-k : tie.Need-add-k Inv-loop μ-loop
 add-k c = omega arith
 
--- src/lib.rt:55:5
 loop-less : tie.Need-loop-less Inv-loop μ-loop
 loop-less c = omega arith
 
--- src/lib.rt:55:5
 loop-again : tie.Need-loop-again Inv-loop μ-loop
 loop-again c = let n = c .before .before .before in
     let s = n .before .before .before .before .args in
     (placed-more (now (s .bytes)) (s .column) (n .before .before .loop .k) (n .before .before .loop .place) _ _ (sym (n .next-part .ensures) ∙ c .before .next .given .1) (n .before .before .loop .inv .0) .placed, omega arith)
 
--- src/lib.rt:50:1
 returns-2 : tie.Need-returns-2 Inv-loop μ-loop
 returns-2 c = let s = c .before .before .before .args in
     let same : c .before .loop .k ≡ s .number = omega arith in

@@ -3,15 +3,10 @@ use mathlib.Core.Path.{_≡_, sym, ap, _∙_}
 use native.Mathlib.Omega.{arith}
 use lib.ListN.{length}
 use denote.Ref.{now}
-use Rattle.blaming.specs.declared.counting.Tally.{Tally}
 use Rattle.blaming.specs.Bytes.{ownersFound, tallyFrom, tallied}
 use Rattle.blaming.proofs.Tallies.{tally-more, tally-ends}
-use borrow.Author.Needs.{needs}
 use Rattle.blaming.proofs.counting.count.Statement.{statement}
 use Rattle.blaming.proofs.counting.count.Tie as tie
-use Rattle.blaming.proofs.counting.count.Reads as reads
-use Rattle.blaming.proofs.counting.count.Lts as lts
-use Rattle.blaming.proofs.counting.count_at.Reads as count-at-reads
 
 abbrev Inv-loop : tie.InvT-loop
 Inv-loop column table left right tally₀ i₀ tally i = (tallied (ownersFound column table left) left right ≡ tallyFrom (ownersFound column table left) left right i (length left - i) tally) × (i ≤ length left) × (tally .bytes ≤ i) × (tally .rows ≤ tally .next) × (tally .next ≤ 2 ^ 32)
@@ -19,25 +14,20 @@ Inv-loop column table left right tally₀ i₀ tally i = (tallied (ownersFound c
 abbrev μ-loop : tie.MeasureT-loop
 μ-loop column table left right tally₀ i₀ tally i = length left - i
 
--- src/counting.rt:79:5
 loop-holds : tie.Need-loop-holds Inv-loop μ-loop
 loop-holds c =    let a = c .before .before .before .args in
     let all : length (now (a .left)) ≡ length (now (a .left)) - 0 = omega arith in
     (ap (λ (n : ℕ). tallyFrom (ownersFound (a .column) (now (a .table)) (now (a .left))) (now (a .left)) (now (a .right)) 0 n (record { bytes = 0; rows = 0; next = 0 })) all, omega arith, omega arith, omega arith, omega arith)
 
--- src/counting.rt:80:9
 count-at-requires : tie.Need-count-at-requires Inv-loop μ-loop
 count-at-requires c κs = record { more = omega arith; rows = c .before .loop .inv .3; next = c .before .loop .inv .4 }
 
--- src/counting.rt:81:9
 add-i : tie.Need-add-i Inv-loop μ-loop
 add-i c = omega arith
 
--- src/counting.rt:79:5
 loop-less : tie.Need-loop-less Inv-loop μ-loop
 loop-less c = omega arith
 
--- src/counting.rt:79:5
 loop-again : tie.Need-loop-again Inv-loop μ-loop
 loop-again c =    let l = c .before .before in
     let a = l .before .before .before .before .args in
@@ -45,7 +35,6 @@ loop-again c =    let l = c .before .before in
     (l .loop .inv .0 ∙ more ∙ ap (tallyFrom (ownersFound (a .column) (now (a .table)) (now (a .left))) (now (a .left)) (now (a .right)) (l .loop .i + 1) (length (now (a .left)) - (l .loop .i + 1))) (sym (c .count-at .ensures .0)),
       omega arith, omega (arith, c .count-at .ensures .1 .bytes), c .count-at .ensures .1 .rows, c .count-at .ensures .1 .next)
 
--- src/counting.rt:70:1
 returns : tie.Need-returns Inv-loop μ-loop
 returns c =    let l = c .before in
     let a = l .before .before .before .before .args in

@@ -4,31 +4,21 @@ use Rattle.blaming.proofs.Tallies.{counted-same}
 use borrow.Author.Needs.{needs}
 use Rattle.blaming.proofs.counting.count_at.Statement.{statement}
 use Rattle.blaming.proofs.counting.count_at.Tie as tie
-use Rattle.blaming.proofs.counting.count_at.Reads as reads
-use Rattle.blaming.proofs.counting.count_at.Lts as lts
-use Rattle.blaming.proofs.counting.with_byte.Reads as with-byte-reads
-use Rattle.blaming.proofs.fields.same_at.Reads as same-at-reads
-use Rattle.blaming.proofs.rows.owners_of.Reads as owners-of-reads
 
--- src/counting.rt:63:8
 same-at-requires : tie.Need-same-at-requires
 same-at-requires c κs = search needs
 
--- src/counting.rt:64:9
 returns : tie.Need-returns
 unfolding tallyFrom
 returns c =
     (rw (sym (c .before .same-at .ensures) ∙ c .if1 .taken), counted-same _ (c .before .before .before .before .before .pre))
 
--- src/counting.rt:66:22
 owners-of-requires : tie.Need-owners-of-requires
 owners-of-requires c κs = search needs
 
--- src/counting.rt:66:5
 with-byte-requires : tie.Need-with-byte-requires
 with-byte-requires c κs = c .before .before .before .before .before .before .pre
 
--- src/counting.rt:51:1
 returns-2 : tie.Need-returns-2
 unfolding tallyFrom
 returns-2 c =

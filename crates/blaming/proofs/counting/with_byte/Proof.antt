@@ -9,62 +9,45 @@ use Rattle.blaming.proofs.Tallies.{counted-none, counted-rows}
 use borrow.Author.Needs.{needs}
 use Rattle.blaming.proofs.counting.with_byte.Statement.{statement}
 use Rattle.blaming.proofs.counting.with_byte.Tie as tie
-use Rattle.blaming.proofs.counting.with_byte.Reads as reads
-use Rattle.blaming.proofs.counting.with_byte.Lts as lts
-use Rattle.blaming.proofs.counting.less.Reads as less-reads
-use Rattle.word.proofs.larger.Reads as larger-reads
 
--- src/counting.rt:33:20
 enum-told : tie.Need-enum-told
 enum-told c = search needs
 
--- src/counting.rt:33:20
 add-t9 : tie.Need-add-t9
 add-t9 c = search needs
 
--- src/counting.rt:37:24
 enum-known-owners : tie.Need-enum-known-owners
 enum-known-owners c = search needs
 
--- src/counting.rt:38:38
 cast-larger : tie.Need-cast-larger
 cast-larger c = search needs
 
--- src/counting.rt:38:17
 larger-requires : tie.Need-larger-requires
 larger-requires c κs = search needs
 
--- src/counting.rt:39:26
 cast-behind : tie.Need-cast-behind
 cast-behind c = search needs
 
--- src/counting.rt:39:26
 add-behind : tie.Need-add-behind
 add-behind c = search needs
 
--- src/counting.rt:40:17
 less-requires : tie.Need-less-requires
 less-requires c κs = search needs
 
--- src/counting.rt:42:24
 add-t11 : tie.Need-add-t11
 add-t11 c = search needs
 
--- src/counting.rt:43:23
 add-t10 : tie.Need-add-t10
 add-t10 c =
     let pre = c .before .before .before .before .before .before .before .pre in
     omega (arith, pre .rows, pre .next, c .before .before .less .ensures)
 
--- src/counting.rt:44:23
 larger-requires-2 : tie.Need-larger-requires-2
 larger-requires-2 c κs = search needs
 
--- src/counting.rt:26:1
 returns : tie.Need-returns
 returns c = (rw (c .before .enum-told .given .1) refl, counted-none _ (c .before .before .before .pre))
 
--- src/counting.rt:26:1
 returns-2 : tie.Need-returns-2
 returns-2 c =
     let told = c .before .before .before .before .before in

@@ -3,31 +3,21 @@ use Rattle.blaming.specs.Bytes.{firstField}
 use borrow.Author.Needs.{needs}
 use Rattle.blaming.proofs.fields.field_at.Statement.{statement}
 use Rattle.blaming.proofs.fields.field_at.Tie as tie
-use Rattle.blaming.proofs.fields.field_at.Reads as reads
-use Rattle.blaming.proofs.fields.field_at.Lts as lts
-use Rattle.blaming.proofs.fields.field_in.Reads as field-in-reads
-use Rattle.blaming.proofs.fields.same_at.Reads as same-at-reads
-use Rattle.explaining.proofs.part_at.Reads as part-at-reads
 
--- src/fields.rt:75:8
 same-at-requires : tie.Need-same-at-requires
 same-at-requires c κs = search needs
 
--- src/fields.rt:76:9
 returns : tie.Need-returns
 unfolding firstField
 returns c =
     rw (sym (c .before .same-at .ensures) ∙ c .if1 .taken)
 
--- src/fields.rt:78:14
 part-at-requires : tie.Need-part-at-requires
 part-at-requires c κs = search needs
 
--- src/fields.rt:78:5
 field-in-requires : tie.Need-field-in-requires
 field-in-requires c κs = search needs
 
--- src/fields.rt:72:1
 returns-2 : tie.Need-returns-2
 unfolding firstField
 returns-2 c =

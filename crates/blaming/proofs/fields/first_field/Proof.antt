@@ -1,4 +1,4 @@
-use mathlib.Core.Path.{_≡_, refl, sym, ap, _∙_}
+use mathlib.Core.Path.{_≡_, sym, ap, _∙_}
 use Prim.Native.Nat.{_-_, _≤_}
 use native.Mathlib.Omega.{arith}
 use lib.ListN.{length}
@@ -9,9 +9,6 @@ use Rattle.blaming.proofs.FirstField.{field-found, field-more, field-en
 use borrow.Author.Needs.{needs}
 use Rattle.blaming.proofs.fields.first_field.Statement.{statement}
 use Rattle.blaming.proofs.fields.first_field.Tie as tie
-use Rattle.blaming.proofs.fields.first_field.Reads as reads
-use Rattle.blaming.proofs.fields.first_field.Lts as lts
-use Rattle.blaming.proofs.fields.field_at.Reads as field-at-reads
 
 abbrev Inv-loop : tie.InvT-loop
 Inv-loop column left right i₀ i = (firstField (partOf left column) left right 0 (length left) ≡ firstField (partOf left column) left right i (length left - i)) × (i ≤ length left)
@@ -19,21 +16,17 @@ Inv-loop column left right i₀ i = (firstField (partOf left column) left right 
 abbrev μ-loop : tie.MeasureT-loop
 μ-loop column left right i₀ i = length left - i
 
--- src/fields.rt:86:5
 loop-holds : tie.Need-loop-holds Inv-loop μ-loop
 loop-holds c =    let a = c .before .before .args in
     let all : length (now (a .left)) ≡ length (now (a .left)) - 0 = omega arith in
     (ap (firstField (partOf (now (a .left)) (a .column)) (now (a .left)) (now (a .right)) 0) all, omega arith)
 
--- src/fields.rt:87:13
 field-at-requires : tie.Need-field-at-requires Inv-loop μ-loop
 field-at-requires c κs = search needs
 
--- src/fields.rt:89:13
 enum-told : tie.Need-enum-told Inv-loop μ-loop
 enum-told c = search needs
 
--- src/fields.rt:89:13
 returns : tie.Need-returns Inv-loop μ-loop
 returns c =    let f = c .before .before in
     let l = f .before .before in
@@ -43,22 +36,18 @@ returns c =    let f = c .before .before in
 enum-told-2 : tie.Need-enum-told-2 Inv-loop μ-loop
 enum-told-2 c = search needs
 
--- src/fields.rt:91:9
 add-i : tie.Need-add-i Inv-loop μ-loop
 add-i c = omega arith
 
--- src/fields.rt:86:5
 loop-less : tie.Need-loop-less Inv-loop μ-loop
 loop-less c = omega arith
 
--- src/fields.rt:86:5
 loop-again : tie.Need-loop-again Inv-loop μ-loop
 loop-again c =    let f = c .before .before in
     let l = f .before .before in
     let a = l .before .before .before .args in
     (l .loop .inv .0 ∙ field-more (partOf (now (a .left)) (a .column)) (now (a .left)) (now (a .right)) (l .loop .i) (length (now (a .left))) (omega arith) (sym (f .field-at .ensures) ∙ c .enum-told2 .given .1), omega arith)
 
--- src/fields.rt:82:1
 returns-2 : tie.Need-returns-2 Inv-loop μ-loop
 returns-2 c =    let l = c .before in
     let a = l .before .before .before .args in

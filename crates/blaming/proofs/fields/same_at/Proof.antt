@@ -2,19 +2,13 @@
 use borrow.Author.Needs.{needs}
 use Rattle.blaming.proofs.fields.same_at.Statement.{statement}
 use Rattle.blaming.proofs.fields.same_at.Tie as tie
-use Rattle.blaming.proofs.fields.same_at.Reads as reads
-use Rattle.blaming.proofs.fields.same_at.Lts as lts
-use Rattle.blaming.proofs.fields.byte_at.Reads as byte-at-reads
 
--- src/fields.rt:29:5
 byte-at-requires : tie.Need-byte-at-requires
 byte-at-requires c κs = search needs
 
--- src/fields.rt:29:30
 byte-at-requires-2 : tie.Need-byte-at-requires-2
 byte-at-requires-2 c κs = search needs
 
--- src/fields.rt:26:1
 returns : tie.Need-returns
 returns c = rw (c .before .byte-at .ensures, c .byte-at2 .ensures)
 

@@ -8,37 +8,26 @@ use Rattle.blaming.specs.Bytes.{fieldLine}
 use borrow.Author.Needs.{needs}
 use Rattle.blaming.proofs.lines.field_line.Statement.{statement}
 use Rattle.blaming.proofs.lines.field_line.Tie as tie
-use Rattle.blaming.proofs.lines.field_line.Reads as reads
-use Rattle.blaming.proofs.lines.field_line.Lts as lts
-use Rattle.explanation.proofs.words.put_name.Reads as put-name-reads
-use Rattle.text.proofs.put.put_byte.Reads as put-byte-reads
-use Rattle.text.proofs.put.put_named.Reads as put-named-reads
 
 -- the most bytes of the first field
 most : (c : tie.Start) → length (named (ascii "fields differ at byte ") (c .args .offset)) ≤ 42
 most c = named-most _ _ (omega arith)
 
--- src/lines.rt:34:37
 slice-aggregate-put-named : tie.Need-slice-aggregate-put-named
 slice-aggregate-put-named c = search needs
 
--- src/lines.rt:34:9
 put-named-requires : tie.Need-put-named-requires
 put-named-requires c κs = omega (arith, most (c .before .before))
 
--- src/lines.rt:35:9
 put-byte-requires : tie.Need-put-byte-requires
 put-byte-requires c κs = omega (arith, most (c .before .before .before .before))
 
--- src/lines.rt:36:9
 put-name-requires : tie.Need-put-name-requires
 put-name-requires c κs = omega (arith, most (c .before .before .before .before .before .before))
 
--- src/lines.rt:37:5
 put-byte-requires-2 : tie.Need-put-byte-requires-2
 put-byte-requires-2 c κs = omega (arith, most (c .before .before .before .before .before .before .before .before))
 
--- src/lines.rt:30:1
 returns : tie.Need-returns
 unfolding fieldLine
 returns c =

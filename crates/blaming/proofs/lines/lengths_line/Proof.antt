@@ -8,36 +8,26 @@ use Rattle.text.proofs.Texts.{named-most, counts}
 use borrow.Author.Needs.{needs}
 use Rattle.blaming.proofs.lines.lengths_line.Statement.{statement}
 use Rattle.blaming.proofs.lines.lengths_line.Tie as tie
-use Rattle.blaming.proofs.lines.lengths_line.Reads as reads
-use Rattle.blaming.proofs.lines.lengths_line.Lts as lts
-use Rattle.text.proofs.put.put_byte.Reads as put-byte-reads
-use Rattle.text.proofs.put.put_named.Reads as put-named-reads
 
 -- the most bytes of each field
 most : (c : tie.Start) → (length (named (ascii "lengths differ ") (c .args .left)) ≤ 35) × (length (named (ascii " ") (c .args .right)) ≤ 21)
 most c = (named-most _ _ (omega arith), named-most _ _ (omega arith))
 
--- src/lines.rt:24:36
 slice-aggregate-put-named : tie.Need-slice-aggregate-put-named
 slice-aggregate-put-named c = search needs
 
--- src/lines.rt:24:9
 put-named-requires : tie.Need-put-named-requires
 put-named-requires c κs = omega (arith, most (c .before .before))
 
--- src/lines.rt:25:41
 slice-aggregate-put-named-2 : tie.Need-slice-aggregate-put-named-2
 slice-aggregate-put-named-2 c = search needs
 
--- src/lines.rt:25:9
 put-named-requires-2 : tie.Need-put-named-requires-2
 put-named-requires-2 c κs = omega (arith, most (c .before .before .before .before .before))
 
--- src/lines.rt:26:5
 put-byte-requires : tie.Need-put-byte-requires
 put-byte-requires c κs = omega (arith, most (c .before .before .before .before .before .before .before))
 
--- src/lines.rt:20:1
 returns : tie.Need-returns
 unfolding lengthsLine namedLine
 returns c =

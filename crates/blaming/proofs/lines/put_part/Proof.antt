@@ -7,58 +7,42 @@ use Rattle.text.proofs.Texts.{length-named}
 use borrow.Author.Needs.{needs}
 use Rattle.blaming.proofs.lines.put_part.Statement.{statement}
 use Rattle.blaming.proofs.lines.put_part.Tie as tie
-use Rattle.blaming.proofs.lines.put_part.Reads as reads
-use Rattle.blaming.proofs.lines.put_part.Lts as lts
-use Rattle.explanation.proofs.words.put_name.Reads as put-name-reads
-use Rattle.format.proofs.Refusal.number.Reads as number-reads
-use Rattle.text.proofs.put.put_named.Reads as put-named-reads
 
 -- a refusal's number has at most three digits
 short : (c : tie.After-number) → length (named (ascii "refused ") (c .number .result)) ≤ 11
 short c = omega (arith, length-named (ascii "refused ") (c .number .result), length-decimal 2 (c .number .result) (omega arith))
 
--- src/lines.rt:57:24
 enum-known-part : tie.Need-enum-known-part
 enum-known-part c = search needs
 
--- src/lines.rt:59:13
 put-name-requires : tie.Need-put-name-requires
 put-name-requires c κs = search needs
 
--- src/lines.rt:61:27
 enum-known-part-2 : tie.Need-enum-known-part-2
 enum-known-part-2 c = search needs
 
--- src/lines.rt:62:32
 slice-aggregate-put-named : tie.Need-slice-aggregate-put-named
 slice-aggregate-put-named c = search needs
 
--- src/lines.rt:62:45
 number-requires : tie.Need-number-requires
 number-requires c κs = search needs
 
--- src/lines.rt:62:45
 cast-put-named : tie.Need-cast-put-named
 cast-put-named c = search needs
 
--- src/lines.rt:62:13
 put-named-requires : tie.Need-put-named-requires
 put-named-requires c κs = omega (arith, short c)
 
--- src/lines.rt:51:1
 same-length : tie.Need-same-length
 same-length c = search needs
 
--- src/lines.rt:51:1
 returns : tie.Need-returns
 returns c =    let wrote = c .before .before .put-name .ensures in
     (rw (c .before .before .before .before .before .part .given .1) (wrote .0), wrote .1)
 
--- src/lines.rt:51:1
 same-length-2 : tie.Need-same-length-2
 same-length-2 c = search needs
 
--- src/lines.rt:51:1
 returns-2 : tie.Need-returns-2
 returns-2 c =    let number = c .before .before .before in
     let wrote = c .before .before .put-named .ensures in

@@ -9,49 +9,35 @@ use Rattle.blaming.specs.Bytes.{bothLine}
 use borrow.Author.Needs.{needs}
 use Rattle.blaming.proofs.lines.put_row.Statement.{statement}
 use Rattle.blaming.proofs.lines.put_row.Tie as tie
-use Rattle.blaming.proofs.lines.put_row.Reads as reads
-use Rattle.blaming.proofs.lines.put_row.Lts as lts
-use Rattle.text.proofs.lines.put_answer.Reads as put-answer-reads
-use Rattle.text.proofs.put.put_byte.Reads as put-byte-reads
-use Rattle.text.proofs.put.put_named.Reads as put-named-reads
 
 -- a row's number has at most ten digits
 most : (c : tie.After-slice-known) → length (named (ascii "row ") (c .before .args .row)) ≤ 14
 most c = omega (arith, length-named (ascii "row ") (c .before .args .row), length-decimal 9 (c .before .args .row) (omega arith))
 
--- src/lines.rt:91:37
 slice-aggregate-put-named : tie.Need-slice-aggregate-put-named
 slice-aggregate-put-named c = search needs
 
--- src/lines.rt:91:9
 put-named-requires : tie.Need-put-named-requires
 put-named-requires c κs = omega (arith, most (c .before .before))
 
--- src/lines.rt:92:9
 put-byte-requires : tie.Need-put-byte-requires
 put-byte-requires c κs = omega (arith, most (c .before .before .before .before .before .before))
 
--- src/lines.rt:93:9
 put-answer-requires : tie.Need-put-answer-requires
 put-answer-requires c κs = omega (arith, most (c .before .before .before .before .before .before .before .before .before .before))
 
--- src/lines.rt:94:9
 put-byte-requires-2 : tie.Need-put-byte-requires-2
 put-byte-requires-2 c κs = omega (arith, most (c .before .before .before .before .before .before .before .before .before .before .before .before .before .before))
 
--- src/lines.rt:95:9
 put-answer-requires-2 : tie.Need-put-answer-requires-2
 put-answer-requires-2 c κs = omega (arith, most (c .before .before .before .before .before .before .before .before .before .before .before .before .before .before .before .before .before .before))
 
--- src/lines.rt:96:5
 put-byte-requires-3 : tie.Need-put-byte-requires-3
 put-byte-requires-3 c κs = omega (arith, most (c .before .before .before .before .before .before .before .before .before .before .before .before .before .before .before .before .before .before .before .before .before .before))
 
--- src/lines.rt:80:1
 same-length : tie.Need-same-length
 same-length c = search needs
 
--- src/lines.rt:80:1
 returns : tie.Need-returns
 unfolding bothLine
 returns c =

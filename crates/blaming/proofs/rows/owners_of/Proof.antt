@@ -1,31 +1,23 @@
-use mathlib.Core.Path.{sym, ap, _∙_}
+use mathlib.Core.Path.{sym, ap}
 use Rattle.format.proofs.Outcomes.{told}
 use Rattle.explaining.specs.Bytes.{rowsMeaning}
 use Rattle.blaming.specs.Bytes.{ownersIn}
 use borrow.Author.Needs.{needs}
 use Rattle.blaming.proofs.rows.owners_of.Statement.{statement}
 use Rattle.blaming.proofs.rows.owners_of.Tie as tie
-use Rattle.blaming.proofs.rows.owners_of.Reads as reads
-use Rattle.blaming.proofs.rows.owners_of.Lts as lts
-use Rattle.explaining.proofs.rows_at.Reads as rows-at-reads
 
--- src/rows.rt:21:11
 rows-at-requires : tie.Need-rows-at-requires
 rows-at-requires c κs = search needs
 
--- src/rows.rt:22:26
 enum-known-owners : tie.Need-enum-known-owners
 enum-known-owners c = search needs
 
--- src/rows.rt:23:33
 enum-told : tie.Need-enum-told
 enum-told c = search needs
 
--- src/rows.rt:18:1
 returns : tie.Need-returns
 returns c = sym (ap ownersIn (told rowsMeaning (c .before .before .before .rows-at .ensures) (c .before .owners .given .1)))
 
--- src/rows.rt:18:1
 returns-2 : tie.Need-returns-2
 returns-2 c = sym (ap ownersIn (told rowsMeaning (c .before .before .rows-at .ensures) (c .enum-told .given .1)))
 

@@ -1,5 +1,5 @@
 use Prim.Native.Nat.{_+_, _≤_, _<_}
-use mathlib.Core.Path.{_≡_, refl, sym, _∙_}
+use mathlib.Core.Path.{refl, sym, _∙_}
 use native.Mathlib.Nat.{add-zero}
 use native.Mathlib.Omega.{arith}
 use denote.Ref.{now}
@@ -9,13 +9,6 @@ use Rattle.blaming.proofs.Offsets.{text-same, text-none, text-rows}
 use borrow.Author.Needs.{needs}
 use Rattle.blaming.proofs.rows.put_offset.Statement.{statement}
 use Rattle.blaming.proofs.rows.put_offset.Tie as tie
-use Rattle.blaming.proofs.rows.put_offset.Reads as reads
-use Rattle.blaming.proofs.rows.put_offset.Lts as lts
-use Rattle.blaming.proofs.fields.same_at.Reads as same-at-reads
-use Rattle.blaming.proofs.lines.put_byte_line.Reads as put-byte-line-reads
-use Rattle.blaming.proofs.rows.owners_of.Reads as owners-of-reads
-use Rattle.blaming.proofs.rows.put_rows.Reads as put-rows-reads
-use Rattle.explaining.proofs.part_at.Reads as part-at-reads
 
 -- at most eight rows are named
 few : (c : tie.After-first) →
@@ -27,47 +20,37 @@ few c =
     let a = found .before .before .before .before .before .before .before .before .before .before .before .before .before .args in
     rw (sym (found .owners-of .ensures) ∙ c .first .given .1) at (found-few (a .left) (now (a .ltable)) (now (a .lbytes)) (a .offset))
 
--- src/rows.rt:74:8
 same-at-requires : tie.Need-same-at-requires
 same-at-requires c κs = search needs
 
--- src/rows.rt:75:9
 returns : tie.Need-returns
 returns c =    let a = c .before .before .before .before .before .before .before .args in
     (rw (text-same (a .left) (now (a .ltable)) (now (a .lbytes)) (a .right) (now (a .rtable)) (now (a .rbytes)) (a .offset) (sym (c .before .same-at .ensures) ∙ c .if1 .taken)) (record { ends = sym (add-zero _); list = refl }), omega arith)
 
--- src/rows.rt:77:9
 part-at-requires : tie.Need-part-at-requires
 part-at-requires c κs = search needs
 
--- src/rows.rt:78:9
 put-byte-line-requires : tie.Need-put-byte-line-requires
 put-byte-line-requires c κs = omega arith
 
--- src/rows.rt:79:11
 owners-of-requires : tie.Need-owners-of-requires
 owners-of-requires c κs = search needs
 
--- src/rows.rt:80:24
 enum-known-first : tie.Need-enum-known-first
 enum-known-first c = search needs
 
--- src/rows.rt:80:41
 put-rows-requires : tie.Need-put-rows-requires
 put-rows-requires c κs =    let told = c .before in
     let line = told .before .before .before .before .before .before in
     let pre = line .before .before .before .before .before .before .before .before .before .before .pre in
     omega (arith, few (told .before), line .put-byte-line .ensures .1, line .put-byte-line .kept, pre)
 
--- src/rows.rt:83:26
 enum-told : tie.Need-enum-told
 enum-told c = search needs
 
--- src/rows.rt:59:1
 same-length : tie.Need-same-length
 same-length c = search needs
 
--- src/rows.rt:59:1
 returns-2 : tie.Need-returns-2
 returns-2 c =    let put = c .before .before in
     let first = put .before .before .before in
@@ -80,11 +63,9 @@ returns-2 c =    let put = c .before .before in
         (wrote-then (rw (part .part-at .ensures) at (line .put-byte-line .ensures .0)) (put .put-rows .ensures .0)),
       omega (arith, line .put-byte-line .ensures .1, put .put-rows .ensures .1))
 
--- src/rows.rt:59:1
 same-length-2 : tie.Need-same-length-2
 same-length-2 c = search needs
 
--- src/rows.rt:59:1
 returns-3 : tie.Need-returns-3
 returns-3 c =    let found = c .before .before in
     let line = found .before .before .before in

@@ -1,23 +1,14 @@
-use Prim.Native.Nat.{_+_, _-_, _*_, _≤_, _<_}
-use mathlib.Core.Path.{_≡_, refl, sym, ap, _∙_}
-use mathlib.Core.List.{[]}
-use native.Mathlib.Nat.{add-zero}
+use Prim.Native.Nat.{_+_, _-_, _*_, _≤_}
+use mathlib.Core.Path.{_≡_}
 use native.Mathlib.Omega.{arith}
 use lib.ListN.{length}
 use denote.Ref.{now}
-use Rattle.format.specs.Listing.{rowTexts}
-use Rattle.format.specs.Outcome.{Wrote}
 use Rattle.format.specs.Reading.{rowAt}
-use Rattle.format.proofs.Stores.{wrote-then}
 use Rattle.blaming.specs.Bytes.{rowText}
 use Rattle.blaming.proofs.RowTexts.{Written, written-starts, written-more}
 use borrow.Author.Needs.{needs}
 use Rattle.blaming.proofs.rows.put_rows.Statement.{statement}
 use Rattle.blaming.proofs.rows.put_rows.Tie as tie
-use Rattle.blaming.proofs.rows.put_rows.Reads as reads
-use Rattle.blaming.proofs.rows.put_rows.Lts as lts
-use Rattle.blaming.proofs.lines.put_row.Reads as put-row-reads
-use Rattle.u64_based.proofs.row.Reads as row-reads
 
 abbrev Inv-loop : tie.InvT-loop
 Inv-loop out₀ at left ltable lbytes right rtable rbytes first last count end₀ k₀ out end k = Written (rowText (rowAt left ltable lbytes) (rowAt right rtable rbytes)) out₀ at first k out end × (count ≡ last + 1 - first) × (k ≤ count) × (end ≤ at + 57 * k) × (length out ≡ length out₀)
@@ -25,43 +16,33 @@ Inv-loop out₀ at left ltable lbytes right rtable rbytes first last count end�
 abbrev μ-loop : tie.MeasureT-loop
 μ-loop out₀ at left ltable lbytes right rtable rbytes first last count end₀ k₀ out end k = count - k
 
--- src/rows.rt:45:17
 sub-count : tie.Need-sub-count Inv-loop μ-loop
 sub-count c = omega arith
 
--- src/rows.rt:45:17
 add-count : tie.Need-add-count Inv-loop μ-loop
 add-count c = omega arith
 
--- src/rows.rt:48:5
 loop-holds : tie.Need-loop-holds Inv-loop μ-loop
 loop-holds c = (written-starts _ _ _ _, omega arith, omega arith, omega arith, omega arith)
 
--- src/rows.rt:49:19
 add-row : tie.Need-add-row Inv-loop μ-loop
 add-row c = omega arith
 
--- src/rows.rt:50:13
 row-requires : tie.Need-row-requires Inv-loop μ-loop
 row-requires c κs = search needs
 
--- src/rows.rt:51:13
 row-requires-2 : tie.Need-row-requires-2 Inv-loop μ-loop
 row-requires-2 c κs = search needs
 
--- src/rows.rt:52:9
 put-row-requires : tie.Need-put-row-requires Inv-loop μ-loop
 put-row-requires c κs = omega arith
 
--- src/rows.rt:53:9
 add-k : tie.Need-add-k Inv-loop μ-loop
 add-k c = omega arith
 
--- src/rows.rt:48:5
 loop-less : tie.Need-loop-less Inv-loop μ-loop
 loop-less c = omega arith
 
--- src/rows.rt:48:5
 loop-again : tie.Need-loop-again Inv-loop μ-loop
 loop-again c =    let put = c .before .before in
     let b = put .before .before in
@@ -75,11 +56,9 @@ loop-again c =    let put = c .before .before in
       omega (arith, put .put-row .kept),
     )
 
--- src/rows.rt:28:1
 same-length : tie.Need-same-length Inv-loop μ-loop
 same-length c = omega arith
 
--- src/rows.rt:28:1
 returns : tie.Need-returns Inv-loop μ-loop
 returns c =
     let l = c .before in

@@ -1,5 +1,5 @@
 use Prim.Native.Nat.{ℕ}
-use mathlib.Core.Path.{_≡_, refl, sym, ap, _∙_}
+use mathlib.Core.Path.{refl, ap, _∙_}
 use mathlib.Core.List.{List}
 use denote.Ref.{now}
 use Rattle.format.specs.declared.Column.{Column}
@@ -13,13 +13,6 @@ use Rattle.column_c.proofs.Telling.{tells, silent}
 use borrow.Author.Needs.{needs}
 use Rattle.column_c.proofs.parts.hulemartob_part_at.Statement.{statement}
 use Rattle.column_c.proofs.parts.hulemartob_part_at.Tie as tie
-use Rattle.column_c.proofs.parts.hulemartob_part_at.Reads as reads
-use Rattle.column_c.proofs.parts.hulemartob_part_at.Lts as lts
-use Rattle.column_c.proofs.column_from.Reads as column-from-reads
-use Rattle.column_c.proofs.parts.block_of.Reads as block-of-reads
-use Rattle.column_c.proofs.parts.which_part.Reads as which-part-reads
-use Rattle.column_c.proofs.told.Reads as told-reads
-use Rattle.explaining.proofs.part_at.Reads as part-at-reads
 
 -- the numbers of a part that was found
 abbrev numbers : Outcome Part → Outcome (List ℕ)
@@ -29,56 +22,43 @@ numbers o = o >>= (λ (p : Part). value (partNumbers p))
 abbrev parts : tie.Start → Column → Outcome (List ℕ)
 parts c col = numbers (partOf (now (c .args .bytes)) col (c .args .offset))
 
--- src/parts.rt:71:24
 column-from-requires : tie.Need-column-from-requires
 column-from-requires c κs = search needs
 
--- src/parts.rt:72:22
 enum-known-opened : tie.Need-enum-known-opened
 enum-known-opened c = search needs
 
--- src/parts.rt:73:23
 enum-known-q : tie.Need-enum-known-q
 enum-known-q c = search needs
 
--- src/parts.rt:74:24
 told-requires : tie.Need-told-requires
 told-requires c κs = search needs
 
--- src/parts.rt:75:13
 returns : tie.Need-returns
 returns c =    let k = c .before .before .before .before in
     silent (c .before .before .q .given .0 .0) (stopped (parts (k .before .before)) (k .column-from .ensures) (c .before .before .q .given .1)) (c .told .ensures)
 
--- src/parts.rt:78:11
 part-at-requires : tie.Need-part-at-requires
 part-at-requires c κs = search needs
 
--- src/parts.rt:79:24
 enum-known-found : tie.Need-enum-known-found
 enum-known-found c = search needs
 
--- src/parts.rt:81:17
 which-part-requires : tie.Need-which-part-requires
 which-part-requires c κs = search needs
 
--- src/parts.rt:82:25
 block-of-requires : tie.Need-block-of-requires
 block-of-requires c κs = search needs
 
--- src/parts.rt:82:25
 cast-block : tie.Need-cast-block
 cast-block c = search needs
 
--- src/parts.rt:86:27
 enum-known-q-2 : tie.Need-enum-known-q-2
 enum-known-q-2 c = search needs
 
--- src/parts.rt:87:24
 told-requires-2 : tie.Need-told-requires-2
 told-requires-2 c κs = search needs
 
--- src/parts.rt:61:1
 returns-2 : tie.Need-returns-2
 returns-2 c =    let which = c .before .before in
     let f = which .before .before in
@@ -89,7 +69,6 @@ returns-2 c =    let which = c .before .before in
     ∙ ap numbers (told partMeaning (l .part-at .ensures) (f .found .given .1)))
     refl (rw (which .which-part .ensures, c .before .block-of .ensures))
 
--- src/parts.rt:61:1
 returns-3 : tie.Need-returns-3
 returns-3 c =    let l = c .before .before .before .before in
     let k = l .before .before .before .before in

@@ -1,5 +1,5 @@
 use Prim.Native.Nat.{ℕ}
-use mathlib.Core.Path.{_≡_, refl, sym, ap, _∙_}
+use mathlib.Core.Path.{refl, ap, _∙_}
 use mathlib.Core.List.{List}
 use denote.Ref.{now}
 use Rattle.format.specs.declared.Column.{Column}
@@ -13,11 +13,6 @@ use Rattle.column_c.proofs.Telling.{tells, silent}
 use borrow.Author.Needs.{needs}
 use Rattle.column_c.proofs.parts.hulemartob_rows_at.Statement.{statement}
 use Rattle.column_c.proofs.parts.hulemartob_rows_at.Tie as tie
-use Rattle.column_c.proofs.parts.hulemartob_rows_at.Reads as reads
-use Rattle.column_c.proofs.parts.hulemartob_rows_at.Lts as lts
-use Rattle.column_c.proofs.column_from.Reads as column-from-reads
-use Rattle.column_c.proofs.told.Reads as told-reads
-use Rattle.explaining.proofs.rows_at.Reads as rows-at-reads
 
 -- the numbers of rows that were found
 abbrev numbers : Outcome Owners → Outcome (List ℕ)
@@ -27,64 +22,49 @@ numbers o = o >>= (λ (w : Owners). value (rowsNumbers w))
 abbrev rows : tie.Start → Column → Outcome (List ℕ)
 rows c col = numbers (rowsOf (now (c .args .bytes)) col (now (c .args .table)) (c .args .offset))
 
--- src/parts.rt:104:24
 column-from-requires : tie.Need-column-from-requires
 column-from-requires c κs = search needs
 
--- src/parts.rt:105:22
 enum-known-opened : tie.Need-enum-known-opened
 enum-known-opened c = search needs
 
--- src/parts.rt:106:23
 enum-known-q : tie.Need-enum-known-q
 enum-known-q c = search needs
 
--- src/parts.rt:107:24
 told-requires : tie.Need-told-requires
 told-requires c κs = search needs
 
--- src/parts.rt:108:13
 returns : tie.Need-returns
 returns c =    let k = c .before .before .before .before in
     silent (c .before .before .q .given .0 .0) (stopped (rows (k .before .before .before)) (k .column-from .ensures) (c .before .before .q .given .1)) (c .told .ensures)
 
--- src/parts.rt:111:11
 rows-at-requires : tie.Need-rows-at-requires
 rows-at-requires c κs = search needs
 
--- src/parts.rt:112:26
 enum-known-owners : tie.Need-enum-known-owners
 enum-known-owners c = search needs
 
--- src/parts.rt:114:32
 enum-known-owners-2 : tie.Need-enum-known-owners-2
 enum-known-owners-2 c = search needs
 
--- src/parts.rt:114:58
 cast-t18 : tie.Need-cast-t18
 cast-t18 c = search needs
 
--- src/parts.rt:114:72
 cast-t19 : tie.Need-cast-t19
 cast-t19 c = search needs
 
--- src/parts.rt:114:72
 add-t20 : tie.Need-add-t20
 add-t20 c = search needs
 
--- src/parts.rt:115:34
 enum-told : tie.Need-enum-told
 enum-told c = search needs
 
--- src/parts.rt:119:27
 enum-known-q-2 : tie.Need-enum-known-q-2
 enum-known-q-2 c = search needs
 
--- src/parts.rt:120:24
 told-requires-2 : tie.Need-told-requires-2
 told-requires-2 c κs = search needs
 
--- src/parts.rt:93:1
 returns-2 : tie.Need-returns-2
 returns-2 c =    let o = c .before .before .before .before in
     let l = o .before .before .before in
@@ -94,7 +74,6 @@ returns-2 c =    let o = c .before .before .before .before in
     ∙ ap numbers (told rowsMeaning (l .rows-at .ensures) (o .before .owners .given .1)))
     refl (rw (c .before .before .owners2 .given .1))
 
--- src/parts.rt:93:1
 returns-3 : tie.Need-returns-3
 returns-3 c =    let o = c .before .before .before in
     let l = o .before .before .before in
@@ -104,7 +83,6 @@ returns-3 c =    let o = c .before .before .before in
     ∙ ap numbers (told rowsMeaning (l .rows-at .ensures) (o .before .owners .given .1)))
     refl (rw (c .before .enum-told .given .1))
 
--- src/parts.rt:93:1
 returns-4 : tie.Need-returns-4
 returns-4 c =    let l = c .before .before .before .before in
     let k = l .before .before .before .before in

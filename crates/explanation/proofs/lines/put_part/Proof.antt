@@ -5,23 +5,16 @@ use borrow.Author.Tests.{eq-eqb, ne-eqb}
 use borrow.Author.Needs.{needs}
 use Rattle.explanation.proofs.lines.put_part.Statement.{statement}
 use Rattle.explanation.proofs.lines.put_part.Tie as tie
-use Rattle.explanation.proofs.lines.put_part.Reads as reads
-use Rattle.explanation.proofs.lines.put_part.Lts as lts
-use Rattle.explanation.proofs.lines.put_line.Reads as put-line-reads
 
--- src/lines.rt:94:9
 returns : tie.Need-returns
 returns c = (rw (eq-eqb _ 0 (c .if1 .taken)) (record { ends = sym (add-zero _); list = refl }), omega arith)
 
--- src/lines.rt:96:5
 put-line-requires : tie.Need-put-line-requires
 put-line-requires c κs = search needs
 
--- src/lines.rt:88:1
 same-length : tie.Need-same-length
 same-length c = search needs
 
--- src/lines.rt:88:1
 returns-2 : tie.Need-returns-2
 returns-2 c = let put = c .before .before in
     (rw (ne-eqb _ 0 (put .before .before .if1 .left)) (put .put-line .ensures .0), put .put-line .ensures .1)

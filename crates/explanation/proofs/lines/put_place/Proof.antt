@@ -9,11 +9,6 @@ use Rattle.explanation.specs.Explained.{placeText}
 use borrow.Author.Needs.{needs}
 use Rattle.explanation.proofs.lines.put_place.Statement.{statement}
 use Rattle.explanation.proofs.lines.put_place.Tie as tie
-use Rattle.explanation.proofs.lines.put_place.Reads as reads
-use Rattle.explanation.proofs.lines.put_place.Lts as lts
-use Rattle.text.proofs.put.put_byte.Reads as put-byte-reads
-use Rattle.text.proofs.put.put_decimal.Reads as put-decimal-reads
-use Rattle.text.proofs.put.put_named.Reads as put-named-reads
 
 -- offset and length have at most twenty digits each
 short : (c : tie.After-slice-known) →
@@ -23,27 +18,21 @@ short c =
     let a = c .before .args in
     (length-decimal 19 (a .first) (omega arith), named-most (ascii " ") (a .bytes) (omega arith))
 
--- src/lines.rt:77:9
 put-decimal-requires : tie.Need-put-decimal-requires
 put-decimal-requires c κs = omega (arith, short (c .before))
 
--- src/lines.rt:78:39
 slice-aggregate-put-named : tie.Need-slice-aggregate-put-named
 slice-aggregate-put-named c = search needs
 
--- src/lines.rt:78:9
 put-named-requires : tie.Need-put-named-requires
 put-named-requires c κs = omega (arith, short (c .before .before .before .before .before .before))
 
--- src/lines.rt:79:5
 put-byte-requires : tie.Need-put-byte-requires
 put-byte-requires c κs = omega (arith, short (c .before .before .before .before .before .before .before .before .before .before))
 
--- src/lines.rt:72:1
 same-length : tie.Need-same-length
 same-length c = search needs
 
--- src/lines.rt:72:1
 returns : tie.Need-returns
 unfolding placeText
 returns c =

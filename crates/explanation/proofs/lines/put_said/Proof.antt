@@ -9,9 +9,6 @@ use Rattle.text.proofs.Texts.{length-named, named-most}
 use borrow.Author.Needs.{needs}
 use Rattle.explanation.proofs.lines.put_said.Statement.{statement}
 use Rattle.explanation.proofs.lines.put_said.Tie as tie
-use Rattle.explanation.proofs.lines.put_said.Reads as reads
-use Rattle.explanation.proofs.lines.put_said.Lts as lts
-use Rattle.text.proofs.put.put_named.Reads as put-named-reads
 
 -- a number has at most twenty digits
 number : (c : tie.After-known-told) → length (named (ascii " ") (c .before .said .given .0 .0)) ≤ 21
@@ -21,59 +18,46 @@ number c = named-most (ascii " ") (c .before .said .given .0 .0) (omega arith)
 bits : (c : tie.After-known-told2) → length (named (ascii " bits ") (c .before .said2 .given .0 .0)) ≤ 9
 bits c = omega (arith, length-named (ascii " bits ") (c .before .said2 .given .0 .0), length-decimal 2 (c .before .said2 .given .0 .0) (omega arith))
 
--- src/lines.rt:65:22
 enum-known-said : tie.Need-enum-known-said
 enum-known-said c = search needs
 
--- src/lines.rt:65:47
 slice-aggregate-put-named : tie.Need-slice-aggregate-put-named
 slice-aggregate-put-named c = search needs
 
--- src/lines.rt:65:28
 put-named-requires : tie.Need-put-named-requires
 put-named-requires c κs = omega (arith, number (c .before .before))
 
--- src/lines.rt:66:20
 enum-known-said-2 : tie.Need-enum-known-said-2
 enum-known-said-2 c = search needs
 
--- src/lines.rt:66:45
 slice-aggregate-put-named-2 : tie.Need-slice-aggregate-put-named-2
 slice-aggregate-put-named-2 c = search needs
 
--- src/lines.rt:66:56
 cast-put-named : tie.Need-cast-put-named
 cast-put-named c = search needs
 
--- src/lines.rt:66:26
 put-named-requires-2 : tie.Need-put-named-requires-2
 put-named-requires-2 c κs = omega (arith, bits (c .before .before))
 
--- src/lines.rt:67:26
 enum-told : tie.Need-enum-told
 enum-told c = search needs
 
--- src/lines.rt:59:1
 same-length : tie.Need-same-length
 same-length c = search needs
 
--- src/lines.rt:59:1
 returns : tie.Need-returns
 returns c = let wrote = c .before .before .put-named .ensures in
     let told = c .before .before .before .before .before in
     (rw (told .before .said .given .1) wrote, omega (arith, wrote .ends, number told))
 
--- src/lines.rt:59:1
 same-length-2 : tie.Need-same-length-2
 same-length-2 c = search needs
 
--- src/lines.rt:59:1
 returns-2 : tie.Need-returns-2
 returns-2 c = let wrote = c .before .before .put-named2 .ensures in
     let told = c .before .before .before .before .before in
     (rw (told .before .said2 .given .1) wrote, omega (arith, wrote .ends, bits told))
 
--- src/lines.rt:59:1
 returns-3 : tie.Need-returns-3
 returns-3 c = (rw (c .enum-told .given .1) (record { ends = sym (add-zero _); list = refl }), omega arith)
 

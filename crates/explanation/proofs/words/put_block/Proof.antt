@@ -8,10 +8,6 @@ use Rattle.text.proofs.Texts.{length-named}
 use borrow.Author.Needs.{needs}
 use Rattle.explanation.proofs.words.put_block.Statement.{statement}
 use Rattle.explanation.proofs.words.put_block.Tie as tie
-use Rattle.explanation.proofs.words.put_block.Reads as reads
-use Rattle.explanation.proofs.words.put_block.Lts as lts
-use Rattle.text.proofs.put.put_named.Reads as put-named-reads
-use Rattle.text.proofs.put.put_text.Reads as put-text-reads
 
 -- a block's number has at most ten digits
 short : (c : tie.After-put-named-arg2) → length (named (ascii "block ") (c .before .before .before .before .args .block)) ≤ 16
@@ -19,23 +15,18 @@ short c =
     let k = c .before .before .before .before .args .block in
     omega (arith, length-named (ascii "block ") k, length-decimal 9 k (omega arith))
 
--- src/words.rt:19:37
 slice-aggregate-put-named : tie.Need-slice-aggregate-put-named
 slice-aggregate-put-named c = search needs
 
--- src/words.rt:19:9
 put-named-requires : tie.Need-put-named-requires
 put-named-requires c κs = omega (arith, short c)
 
--- src/words.rt:20:5
 put-text-requires : tie.Need-put-text-requires
 put-text-requires c κs = omega (arith, c .before .before .before .put-named .ensures .ends, short (c .before .before .before .before))
 
--- src/words.rt:13:1
 same-length : tie.Need-same-length
 same-length c = search needs
 
--- src/words.rt:13:1
 returns : tie.Need-returns
 returns c = let first = c .before .before .before .before .before .before in
     let wrote = wrote-then (first .put-named .ensures) (c .before .before .put-text .ensures) in
