@@ -58,9 +58,7 @@ fn put_part(out: &mut [u8], at: usize, part: PartRead) -> usize
             let name = part.name;
             put_name(out, at, name)
         }
-        PartRead::Refused(refusal) => {
-            put_named(out, at, b"refused ", refusal.number() as u64)
-        }
+        PartRead::Refused(refusal) => { put_named(out, at, b"refused ", refusal.number() as u64) }
     }
 }
 
@@ -77,13 +75,7 @@ pub(crate) fn put_byte_line(out: &mut [u8], at: usize, offset: usize, part: Part
 }
 
 // Internal: asks for room of fifty-seven bytes, and no line takes more. Writes the line of a row, and returns the offset behind it.
-pub(crate) fn put_row(
-    out: &mut [u8],
-    at: usize,
-    row: u32,
-    left: RowRead,
-    right: RowRead,
-) -> usize
+pub(crate) fn put_row(out: &mut [u8], at: usize, row: u32, left: RowRead, right: RowRead) -> usize
     requires { ⌜ at + 57 ≤ length (now out) ⌝ }
     ensures { λ r. ⌜ Wrote (now (out .entry)) at (bothLine row (rowMeaning left) (rowMeaning right)) (now (out .exit)) r ⌝ }
     ensures { λ r. ⌜ r ≤ at + 57 ⌝ }

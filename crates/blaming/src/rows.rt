@@ -78,7 +78,16 @@ pub(crate) fn put_offset(
     let line = put_byte_line(out, at, offset, part);
     match owners_of(left, ltable, lbytes, offset) {
         Owners::Rows { first, last } => put_rows(
-            out, line, left, ltable, lbytes, right, rtable, rbytes, first, last,
+            out,
+            line,
+            left,
+            ltable,
+            lbytes,
+            right,
+            rtable,
+            rbytes,
+            first,
+            last,
         ),
         Owners::NoRow => line,
     }

@@ -80,7 +80,13 @@ pub extern "C" fn hulemartob_part_at(
             let name = found.name;
             let which = which_part(name);
             let block = block_of(name) as u64;
-            *part = [which, block, found.first as u64, found.bytes as u64, found.value];
+            *part = [
+                which,
+                block,
+                found.first as u64,
+                found.bytes as u64,
+                found.value,
+            ];
             *refusal = ACCEPTED;
         }
         PartRead::Refused(q) => {

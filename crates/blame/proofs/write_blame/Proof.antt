@@ -1,3 +1,5 @@
+-- `write_blame` is safe: the line's length that beginning answers lies inside the line.
+-- Assumes nothing.
 use Rattle.io.specs.Counts.{Counts}
 use borrow.Author.Needs.{needs}
 use Rattle.blame.proofs.write_blame.Statement.{statement}

@@ -1,3 +1,5 @@
+-- `write_bytes` is safe and ends: each turn looks at an offset at least, and at none but those that are left.
+-- Assumes nothing.
 use Prim.Native.Nat.{_-_, _≤_}
 use mathlib.Core.Path.{_≡_}
 use native.Mathlib.Omega.{arith}
@@ -53,7 +55,7 @@ loop-less : tie.Need-loop-less Inv-loop μ-loop
 loop-less c = omega (arith, took-here (c .before .before .before .before .before .before))
 
 loop-again : tie.Need-loop-again Inv-loop μ-loop
-loop-again c =    let called = c .before .before .before .before .before .before in
+loop-again c = let called = c .before .before .before .before .before .before in
     omega (arith, took-here called, called .fill-lines .kept)
 
 same-length-2 : tie.Need-same-length-2 Inv-loop μ-loop

@@ -1,3 +1,5 @@
+-- `begin` meets its contract: the only line, by the first test that gives one, or both columns with their tables.
+-- Assumes nothing.
 use mathlib.Core.Path.{sym, _∙_}
 use borrow.Author.Tests.{eq-eqb, ne-eqb}
 use denote.Ref.{now}
@@ -32,7 +34,7 @@ named-line-requires : tie.Need-named-line-requires
 named-line-requires c κs = search needs
 
 returns : tie.Need-returns
-returns c =    let number = c .before .before .before in
+returns c = let number = c .before .before .before in
     let refused = number .before in
     let first = refused .before .before in
     let a = first .before .before .before .args in
@@ -60,7 +62,7 @@ named-line-requires-2 : tie.Need-named-line-requires-2
 named-line-requires-2 c κs = search needs
 
 returns-2 : tie.Need-returns-2
-returns-2 c =    let number = c .before .before .before in
+returns-2 c = let number = c .before .before .before in
     let refused = number .before in
     let second = refused .before .before in
     let was = second .before .before in
@@ -72,7 +74,7 @@ lengths-line-requires : tie.Need-lengths-line-requires
 lengths-line-requires c κs = search needs
 
 returns-3 : tie.Need-returns-3
-returns-3 c =    let test = c .before .before in
+returns-3 c = let test = c .before .before in
     let is = test .before .before in
     let second = is .before .before in
     let was = second .before .before in
@@ -90,7 +92,7 @@ field-line-requires : tie.Need-field-line-requires
 field-line-requires c κs = search needs
 
 returns-4 : tie.Need-returns-4
-returns-4 c =    let at = c .before .before .before in
+returns-4 c = let at = c .before .before .before in
     let field = at .before .before in
     let test = field .before in
     let is = test .before .before in
@@ -104,16 +106,16 @@ enum-told-3 : tie.Need-enum-told-3
 enum-told-3 c = search needs
 
 fill-requires : tie.Need-fill-requires
-fill-requires c κs =    let is = c .before .before .before .before .before .before in
+fill-requires c κs = let is = c .before .before .before .before .before .before in
     let was = is .before .before .before .before in
     sym (told openedMeaning (was .before .before .open-plain .ensures) (was .opened .given .1))
 
 fill-requires-2 : tie.Need-fill-requires-2
-fill-requires-2 c κs =    let is = c .before .before .before .before .before .before .before .before in
+fill-requires-2 c κs = let is = c .before .before .before .before .before .before .before .before in
     sym (told openedMeaning (is .before .before .open-plain2 .ensures) (is .other .given .1))
 
 returns-5 : tie.Need-returns-5
-returns-5 c =    let left = c .before .before in
+returns-5 c = let left = c .before .before in
     let none = left .before .before in
     let field = none .before .before in
     let test = field .before in

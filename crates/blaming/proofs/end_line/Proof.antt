@@ -1,4 +1,5 @@
-
+-- `end_line` meets its contract: the line of what was counted.
+-- Assumes nothing.
 use borrow.Author.Needs.{needs}
 use Rattle.blaming.proofs.end_line.Statement.{statement}
 use Rattle.blaming.proofs.end_line.Tie as tie

@@ -1,3 +1,5 @@
+-- `fill_lines` meets its contract. The invariant is `Filling`; the measure is the number of offsets left.
+-- Assumes nothing.
 use Prim.Native.Nat.{_-_}
 use mathlib.Core.Path.{_≡_}
 use mathlib.Core.Logic.{⊎-elim}
@@ -25,7 +27,7 @@ sub-if1 : tie.Need-sub-if1 Inv-loop μ-loop
 sub-if1 c = omega (arith, c .before .loop .inv .room, c .before .loop .inv .kept)
 
 put-offset-requires : tie.Need-put-offset-requires Inv-loop μ-loop
-put-offset-requires c κs =    let l = c .before .before .before in
+put-offset-requires c κs = let l = c .before .before .before in
     omega (arith, c .before .if1 .left, l .loop .inv .room, l .loop .inv .kept)
 
 add-i : tie.Need-add-i Inv-loop μ-loop
@@ -35,7 +37,7 @@ loop-less : tie.Need-loop-less Inv-loop μ-loop
 loop-less c = omega (arith, c .before .before .before .before .before .loop-test .taken)
 
 loop-again : tie.Need-loop-again Inv-loop μ-loop
-loop-again c =    let put = c .before .before in
+loop-again c = let put = c .before .before in
     let test = put .before .before in
     let turn = test .before in
     filling-more (turn .before .loop .inv) (turn .loop-test .taken) (omega (arith, test .if1 .left)) (put .put-offset .ensures .0) (put .put-offset .ensures .1)
@@ -53,7 +55,7 @@ none-left : (c : tie.Left-loop Inv-loop μ-loop) →
 none-left c = ⊎-elim (λ w. chunk-none _ _ _ _ _ (w .left)) (λ w. chunk-full _ _ _ _ _ (omega (arith, w .1 .taken, c .before .loop .inv .kept))) (c .loop-test .came)
 
 returns : tie.Need-returns Inv-loop μ-loop
-returns c =    let f = c .before .loop .inv in
+returns c = let f = c .before .loop .inv in
     let offsets = filling-rows f (none-left c) in
     let bytes = filling-bytes f (none-left c) in
     ((λ i. record { offsets = offsets i; bytes = bytes i }), (filling-list f (none-left c), counts _ _ (omega (arith, f .room, f .kept))))

@@ -1,3 +1,5 @@
+-- `write_explanation` is safe: the line's length that beginning answers lies inside the line.
+-- Assumes nothing.
 use Rattle.io.specs.Counts.{Counts}
 use borrow.Author.Needs.{needs}
 use Rattle.explain.proofs.write_explanation.Statement.{statement}

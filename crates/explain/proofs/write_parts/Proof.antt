@@ -1,3 +1,5 @@
+-- `write_parts` is safe and ends: each turn but the last takes a part at least, and none but those that are left.
+-- Assumes nothing.
 use Prim.Native.Nat.{_+_, _-_, _≤_, _<_, _^_}
 use mathlib.Core.Path.{_≡_}
 use native.Mathlib.Omega.{arith}

@@ -1,3 +1,5 @@
+-- `begin` meets its contract: a refusal's line, or the column.
+-- Assumes nothing.
 use Rattle.explanation.proofs.Beginnings.{begun-refused, begun-column}
 use borrow.Author.Needs.{needs}
 use Rattle.explanation.proofs.begin.Statement.{statement}

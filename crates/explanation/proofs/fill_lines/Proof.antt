@@ -1,3 +1,5 @@
+-- `fill_lines` meets its contract. The invariant is `Filling`, with the place of the next part; the measure is the number of parts left.
+-- Assumes nothing.
 use Prim.Native.Nat.{_-_, _<_, _^_}
 use mathlib.Core.Path.{_≡_, sym, ap, _∙_}
 use mathlib.Core.Logic.{⊎-elim}

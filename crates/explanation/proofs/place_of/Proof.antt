@@ -1,3 +1,5 @@
+-- `place_of` meets its contract. The invariant is `Placed`; behind the last part the place stays what it is.
+-- Assumes nothing.
 use mathlib.Core.Path.{_≡_, sym, _∙_}
 use Prim.Native.Nat.{_-_, _≤_}
 use native.Mathlib.Omega.{arith}

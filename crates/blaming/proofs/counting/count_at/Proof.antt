@@ -1,3 +1,5 @@
+-- `count_at` meets its contract: the count as it was, or with one byte more.
+-- Assumes nothing.
 use mathlib.Core.Path.{sym, _∙_}
 use Rattle.blaming.specs.Bytes.{tallyFrom}
 use Rattle.blaming.proofs.Tallies.{counted-same}

@@ -1,3 +1,5 @@
+-- `with_byte` meets its contract, by the rows that the byte names.
+-- Assumes nothing.
 use Prim.Native.Nat.{ℕ, _+_, _-_, _^_, _<_, max}
 use mathlib.Core.Path.{_≡_, refl, sym, ap, _∙_, subst}
 use Rattle.format.specs.declared.Owners.the-variants.{Rows}

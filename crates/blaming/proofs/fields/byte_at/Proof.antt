@@ -1,3 +1,5 @@
+-- `byte_at` meets its contract: past its end a list has 0.
+-- Assumes nothing.
 use mathlib.Core.Path.{sym}
 use lib.ListN.{List·getD-eq-default}
 use denote.Ref.{now}

@@ -1,3 +1,5 @@
+-- `field_at` meets its contract: the first of one byte.
+-- Assumes nothing.
 use mathlib.Core.Path.{sym, _∙_}
 use Rattle.blaming.specs.Bytes.{firstField}
 use borrow.Author.Needs.{needs}

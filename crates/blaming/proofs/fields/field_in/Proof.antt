@@ -1,3 +1,5 @@
+-- `field_in` meets its contract: the answer taken apart, and the test.
+-- Assumes nothing.
 use mathlib.Core.Path.{sym, _∙_}
 use borrow.Author.Needs.{needs}
 use Rattle.blaming.proofs.fields.field_in.Statement.{statement}

@@ -1,4 +1,5 @@
-
+-- `same_at` meets its contract: both bytes are those of the lists.
+-- Assumes nothing.
 use borrow.Author.Needs.{needs}
 use Rattle.blaming.proofs.fields.same_at.Statement.{statement}
 use Rattle.blaming.proofs.fields.same_at.Tie as tie

@@ -1,3 +1,5 @@
+-- `count_line` meets its contract: its fields have room in 128 bytes.
+-- Assumes nothing.
 use Prim.Native.Nat.{_≤_}
 use native.Mathlib.Omega.{arith}
 use lib.ListN.{length}
@@ -28,7 +30,7 @@ put-byte-requires : tie.Need-put-byte-requires
 put-byte-requires c κs = omega (arith, most (c .before .before .before .before .before .before .before))
 
 returns : tie.Need-returns
-unfolding  namedLine
+unfolding namedLine
 returns c =
     let second = c .before .before in
     let first = second .before .before .before in

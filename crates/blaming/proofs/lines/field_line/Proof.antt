@@ -1,3 +1,5 @@
+-- `field_line` meets its contract: its fields have room in 128 bytes.
+-- Assumes nothing.
 use Prim.Native.Nat.{_≤_}
 use native.Mathlib.Omega.{arith}
 use lib.ListN.{length}

@@ -1,3 +1,5 @@
+-- `lengths_line` meets its contract: its fields have room in 128 bytes.
+-- Assumes nothing.
 use Rattle.blaming.specs.Bytes.{lengthsLine}
 use Prim.Native.Nat.{_≤_}
 use native.Mathlib.Omega.{arith}

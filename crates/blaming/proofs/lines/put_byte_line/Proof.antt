@@ -1,3 +1,5 @@
+-- `put_byte_line` meets its contract: four fields, one behind the other.
+-- Assumes nothing.
 use Prim.Native.Nat.{_≤_}
 use native.Mathlib.Omega.{arith}
 use lib.ListN.{length}

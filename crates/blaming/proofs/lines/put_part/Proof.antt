@@ -1,3 +1,5 @@
+-- `put_part` meets its contract: a part's name, or a refusal's number.
+-- Assumes nothing.
 use Prim.Native.Nat.{_≤_}
 use native.Mathlib.Omega.{arith}
 use lib.ListN.{length}
@@ -37,14 +39,14 @@ same-length : tie.Need-same-length
 same-length c = search needs
 
 returns : tie.Need-returns
-returns c =    let wrote = c .before .before .put-name .ensures in
+returns c = let wrote = c .before .before .put-name .ensures in
     (rw (c .before .before .before .before .before .part .given .1) (wrote .0), wrote .1)
 
 same-length-2 : tie.Need-same-length-2
 same-length-2 c = search needs
 
 returns-2 : tie.Need-returns-2
-returns-2 c =    let number = c .before .before .before in
+returns-2 c = let number = c .before .before .before in
     let wrote = c .before .before .put-named .ensures in
     (rw (number .before .before .before .before .part2 .given .1, ← number .number .ensures) wrote, omega (arith, wrote .ends, short number))
 

@@ -1,3 +1,5 @@
+-- `put_row` meets its contract: six fields, one behind the other; a row's number has at most ten digits.
+-- Assumes nothing.
 use Prim.Native.Nat.{_≤_}
 use native.Mathlib.Omega.{arith}
 use lib.ListN.{length}

@@ -1,3 +1,5 @@
+-- `owners_of` meets its contract: the answer taken apart.
+-- Assumes nothing.
 use mathlib.Core.Path.{sym, ap}
 use Rattle.format.proofs.Outcomes.{told}
 use Rattle.explaining.specs.Bytes.{rowsMeaning}

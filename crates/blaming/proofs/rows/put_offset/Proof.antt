@@ -1,3 +1,5 @@
+-- `put_offset` meets its contract: nothing for bytes that are the same, else the byte's line and those of its rows, which are eight at most.
+-- Assumes nothing.
 use Prim.Native.Nat.{_+_, _≤_, _<_}
 use mathlib.Core.Path.{refl, sym, _∙_}
 use native.Mathlib.Nat.{add-zero}
@@ -24,7 +26,7 @@ same-at-requires : tie.Need-same-at-requires
 same-at-requires c κs = search needs
 
 returns : tie.Need-returns
-returns c =    let a = c .before .before .before .before .before .before .before .args in
+returns c = let a = c .before .before .before .before .before .before .before .args in
     (rw (text-same (a .left) (now (a .ltable)) (now (a .lbytes)) (a .right) (now (a .rtable)) (now (a .rbytes)) (a .offset) (sym (c .before .same-at .ensures) ∙ c .if1 .taken)) (record { ends = sym (add-zero _); list = refl }), omega arith)
 
 part-at-requires : tie.Need-part-at-requires
@@ -40,7 +42,7 @@ enum-known-first : tie.Need-enum-known-first
 enum-known-first c = search needs
 
 put-rows-requires : tie.Need-put-rows-requires
-put-rows-requires c κs =    let told = c .before in
+put-rows-requires c κs = let told = c .before in
     let line = told .before .before .before .before .before .before in
     let pre = line .before .before .before .before .before .before .before .before .before .before .pre in
     omega (arith, few (told .before), line .put-byte-line .ensures .1, line .put-byte-line .kept, pre)
@@ -52,29 +54,31 @@ same-length : tie.Need-same-length
 same-length c = search needs
 
 returns-2 : tie.Need-returns-2
-returns-2 c =    let put = c .before .before in
+returns-2 c = let put = c .before .before in
     let first = put .before .before .before in
     let found = first .before .before in
     let line = found .before .before .before in
     let part = line .before .before in
     let test = part .before in
-    let a = test .before .before .before .before .before .before .before .args in
-    (rw (text-rows (a .left) (now (a .ltable)) (now (a .lbytes)) (a .right) (now (a .rtable)) (now (a .rbytes)) (a .offset) _ _ (sym (test .before .same-at .ensures) ∙ test .if1 .left) (sym (found .owners-of .ensures) ∙ first .first .given .1))
-        (wrote-then (rw (part .part-at .ensures) at (line .put-byte-line .ensures .0)) (put .put-rows .ensures .0)),
-      omega (arith, line .put-byte-line .ensures .1, put .put-rows .ensures .1))
+    let a = test .before .before .before .before .before .before .before .args in (
+      rw (text-rows (a .left) (now (a .ltable)) (now (a .lbytes)) (a .right) (now (a .rtable)) (now (a .rbytes)) (a .offset) _ _ (sym (test .before .same-at .ensures) ∙ test .if1 .left) (sym (found .owners-of .ensures) ∙ first .first .given .1))
+          (wrote-then (rw (part .part-at .ensures) at (line .put-byte-line .ensures .0)) (put .put-rows .ensures .0)),
+      omega (arith, line .put-byte-line .ensures .1, put .put-rows .ensures .1),
+    )
 
 same-length-2 : tie.Need-same-length-2
 same-length-2 c = search needs
 
 returns-3 : tie.Need-returns-3
-returns-3 c =    let found = c .before .before in
+returns-3 c = let found = c .before .before in
     let line = found .before .before .before in
     let part = line .before .before in
     let test = part .before in
-    let a = test .before .before .before .before .before .before .before .args in
-    (rw (text-none (a .left) (now (a .ltable)) (now (a .lbytes)) (a .right) (now (a .rtable)) (now (a .rbytes)) (a .offset) (sym (test .before .same-at .ensures) ∙ test .if1 .left) (sym (found .owners-of .ensures) ∙ c .enum-told .given .1))
-        (rw (part .part-at .ensures) at (line .put-byte-line .ensures .0)),
-      omega (arith, line .put-byte-line .ensures .1))
+    let a = test .before .before .before .before .before .before .before .args in (
+      rw (text-none (a .left) (now (a .ltable)) (now (a .lbytes)) (a .right) (now (a .rtable)) (now (a .rbytes)) (a .offset) (sym (test .before .same-at .ensures) ∙ test .if1 .left) (sym (found .owners-of .ensures) ∙ c .enum-told .given .1))
+          (rw (part .part-at .ensures) at (line .put-byte-line .ensures .0)),
+      omega (arith, line .put-byte-line .ensures .1),
+    )
 
 pub put-offset-spec : {M : Type 1} → statement M
 put-offset-spec =

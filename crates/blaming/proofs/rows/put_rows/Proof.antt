@@ -1,3 +1,5 @@
+-- `put_rows` meets its contract. The invariant is `Written`: the lines of the rows so far.
+-- Assumes nothing.
 use Prim.Native.Nat.{_+_, _-_, _*_, _≤_}
 use mathlib.Core.Path.{_≡_}
 use native.Mathlib.Omega.{arith}
@@ -44,7 +46,7 @@ loop-less : tie.Need-loop-less Inv-loop μ-loop
 loop-less c = omega arith
 
 loop-again : tie.Need-loop-again Inv-loop μ-loop
-loop-again c =    let put = c .before .before in
+loop-again c = let put = c .before .before in
     let b = put .before .before in
     let l = b .before .before .before in
     let a = l .before .before .before .before .before .before .args in (

@@ -1,3 +1,5 @@
+-- `column_c::parts::hulemartob_part_at` meets its contract: the twelve numbers are no column, or the part is that column's.
+-- Assumes nothing.
 use Prim.Native.Nat.{ℕ}
 use mathlib.Core.Path.{refl, ap, _∙_}
 use mathlib.Core.List.{List}
@@ -35,7 +37,7 @@ told-requires : tie.Need-told-requires
 told-requires c κs = search needs
 
 returns : tie.Need-returns
-returns c =    let k = c .before .before .before .before in
+returns c = let k = c .before .before .before .before in
     silent (c .before .before .q .given .0 .0) (stopped (parts (k .before .before)) (k .column-from .ensures) (c .before .before .q .given .1)) (c .told .ensures)
 
 part-at-requires : tie.Need-part-at-requires
@@ -60,7 +62,7 @@ told-requires-2 : tie.Need-told-requires-2
 told-requires-2 c κs = search needs
 
 returns-2 : tie.Need-returns-2
-returns-2 c =    let which = c .before .before in
+returns-2 c = let which = c .before .before in
     let f = which .before .before in
     let l = f .before .before in
     let k = l .before .before .before .before in
@@ -70,7 +72,7 @@ returns-2 c =    let which = c .before .before in
     refl (rw (which .which-part .ensures, c .before .block-of .ensures))
 
 returns-3 : tie.Need-returns-3
-returns-3 c =    let l = c .before .before .before .before in
+returns-3 c = let l = c .before .before .before .before in
     let k = l .before .before .before .before in
     silent (c .before .before .q2 .given .0 .0)
     (through (parts (k .before .before)) (k .column-from .ensures) (l .before .before .opened .given .1)

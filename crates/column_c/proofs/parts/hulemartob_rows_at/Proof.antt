@@ -1,3 +1,5 @@
+-- `column_c::parts::hulemartob_rows_at` meets its contract: the twelve numbers are no column, or the rows are that column's.
+-- Assumes nothing.
 use Prim.Native.Nat.{ℕ}
 use mathlib.Core.Path.{refl, ap, _∙_}
 use mathlib.Core.List.{List}
@@ -35,7 +37,7 @@ told-requires : tie.Need-told-requires
 told-requires c κs = search needs
 
 returns : tie.Need-returns
-returns c =    let k = c .before .before .before .before in
+returns c = let k = c .before .before .before .before in
     silent (c .before .before .q .given .0 .0) (stopped (rows (k .before .before .before)) (k .column-from .ensures) (c .before .before .q .given .1)) (c .told .ensures)
 
 rows-at-requires : tie.Need-rows-at-requires
@@ -66,7 +68,7 @@ told-requires-2 : tie.Need-told-requires-2
 told-requires-2 c κs = search needs
 
 returns-2 : tie.Need-returns-2
-returns-2 c =    let o = c .before .before .before .before in
+returns-2 c = let o = c .before .before .before .before in
     let l = o .before .before .before in
     let k = l .before .before .before .before in
     tells _
@@ -75,7 +77,7 @@ returns-2 c =    let o = c .before .before .before .before in
     refl (rw (c .before .before .owners2 .given .1))
 
 returns-3 : tie.Need-returns-3
-returns-3 c =    let o = c .before .before .before in
+returns-3 c = let o = c .before .before .before in
     let l = o .before .before .before in
     let k = l .before .before .before .before in
     tells _
@@ -84,7 +86,7 @@ returns-3 c =    let o = c .before .before .before in
     refl (rw (c .before .enum-told .given .1))
 
 returns-4 : tie.Need-returns-4
-returns-4 c =    let l = c .before .before .before .before in
+returns-4 c = let l = c .before .before .before .before in
     let k = l .before .before .before .before in
     silent (c .before .before .q2 .given .0 .0)
     (through (rows (k .before .before .before)) (k .column-from .ensures) (l .before .before .opened .given .1)

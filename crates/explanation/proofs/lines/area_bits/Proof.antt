@@ -1,3 +1,5 @@
+-- `area_bits` meets its contract, by the codec.
+-- Assumes nothing.
 use borrow.Author.Needs.{needs}
 use Rattle.explanation.proofs.lines.area_bits.Statement.{statement}
 use Rattle.explanation.proofs.lines.area_bits.Tie as tie

@@ -1,3 +1,5 @@
+-- `put_line` meets its contract: four fields, one behind the other.
+-- Assumes nothing.
 use native.Mathlib.Omega.{arith}
 use Rattle.format.proofs.Stores.{wrote-then}
 use Rattle.explanation.specs.Explained.{partLine}

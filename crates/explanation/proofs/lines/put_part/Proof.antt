@@ -1,3 +1,5 @@
+-- `put_part` meets its contract: a part of no bytes writes nothing.
+-- Assumes nothing.
 use native.Mathlib.Omega.{arith}
 use native.Mathlib.Nat.{add-zero}
 use mathlib.Core.Path.{refl, sym}

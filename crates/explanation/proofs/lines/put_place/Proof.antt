@@ -1,3 +1,5 @@
+-- `put_place` meets its contract: two numbers of at most twenty digits, and two spaces.
+-- Assumes nothing.
 use Prim.Native.Nat.{_≤_}
 use native.Mathlib.Omega.{arith}
 use lib.ListN.{length}

@@ -1,3 +1,5 @@
+-- `put_said` meets its contract: each arm writes what `saidText` says of its case, and none more than twenty-one bytes.
+-- Assumes nothing.
 use Prim.Native.Nat.{_≤_}
 use native.Mathlib.Omega.{arith}
 use native.Mathlib.Nat.{add-zero}

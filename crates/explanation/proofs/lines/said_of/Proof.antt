@@ -1,3 +1,5 @@
+-- `said_of` meets its contract: each arm is a line of the table.
+-- Assumes nothing.
 use borrow.Author.Needs.{needs}
 use Rattle.explanation.proofs.lines.said_of.Statement.{statement}
 use Rattle.explanation.proofs.lines.said_of.Tie as tie

@@ -1,3 +1,5 @@
+-- `put_block` meets its contract: a block's number has at most ten digits.
+-- Assumes nothing.
 use native.Mathlib.Omega.{arith}
 use Prim.Native.Nat.{_≤_}
 use lib.ListN.{length}

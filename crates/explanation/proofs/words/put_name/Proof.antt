@@ -1,3 +1,5 @@
+-- `put_name` meets its contract: each arm is a line of the table, and none is longer than the longest name.
+-- Assumes nothing.
 use native.Mathlib.Omega.{arith}
 use borrow.Author.Needs.{needs}
 use Rattle.explanation.proofs.words.put_name.Statement.{statement}
