@@ -127,6 +127,21 @@ size_t hulemartob_run(const uint64_t column[12], const uint64_t *table, size_t t
 void hulemartob_replay(const uint64_t column[12], const uint64_t *table, size_t table_len, const uint8_t *bytes, size_t bytes_len,
                        const uint8_t *recording, size_t recording_len, uint64_t report[2], uint64_t refusal[2]);
 
+/* ---- what each byte is
+ *
+ * A part is five numbers: which part, the number of its block (0 where it is no block's), its offset, its length, and the number that its bytes spell (0
+ * where they spell none). Which: 0 code, 1 minimum, 2 gcd, 3 count, 4 rows, 5 slope, 6 intercept, 7 width, 8 the packed area, 9 bytes behind it, 10, 11
+ * and 12 a block's slope, intercept and width, 13 bytes left over in the footer, 14 the footer's length. */
+
+/* `part` is now the part that holds the byte at `offset`. Refused 13 where that lies past the bytes, or the numbers are no column of them. A refusal leaves
+ * `part` as it was. */
+void hulemartob_part_at(const uint64_t column[12], const uint8_t *bytes, size_t bytes_len, size_t offset, uint64_t part[5], uint64_t refusal[2]);
+
+/* `rows` is now the first of the rows that own a bit of the byte at `offset`, and the one behind the last; both 0 where none does. They are rows of the
+ * whole column, whatever its window. Refused 13 as hulemartob_part_at. A refusal leaves `rows` as it was. */
+void hulemartob_rows_at(const uint64_t column[12], const uint64_t *table, size_t table_len, const uint8_t *bytes, size_t bytes_len, size_t offset,
+                        uint64_t rows[2], uint64_t refusal[2]);
+
 /* ---- columns of signed numbers, dates, bools and floats
  *
  * The bytes are the same; a kind says how a stored number reads, and the bytes do not tell it.

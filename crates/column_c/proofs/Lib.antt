@@ -3,3 +3,4 @@ pub mod Answering
 pub mod Naming
 pub mod Reporting
 pub mod Judging
+pub mod Telling

@@ -1,4 +1,5 @@
 pub mod Checking
+pub mod Explaining
 pub mod Numbers
 pub mod Replaying
 pub mod Typed

@@ -1,6 +1,7 @@
 // The library for Rust and C: the entry points over plain numbers. A refusal is two numbers, an opened column twelve. Every call puts its refusal's
 // numbers, both 0 where nothing is refused; a refusal changes no other lent entry. A longer spelling is its offset, 2^64 - 1 where there is none.
 mod checks;
+mod parts;
 mod replays;
 mod typed;
 

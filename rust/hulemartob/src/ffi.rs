@@ -84,6 +84,26 @@ unsafe extern "C" {
         refusal: *mut [u64; 2],
     );
 
+    fn hulemartob_part_at(
+        column: *const [u64; 12],
+        bytes: *const u8,
+        bytes_len: usize,
+        offset: usize,
+        part: *mut [u64; 5],
+        refusal: *mut [u64; 2],
+    );
+
+    fn hulemartob_rows_at(
+        column: *const [u64; 12],
+        table: *const u64,
+        table_len: usize,
+        bytes: *const u8,
+        bytes_len: usize,
+        offset: usize,
+        rows: *mut [u64; 2],
+        refusal: *mut [u64; 2],
+    );
+
     fn hulemartob_column_stats_as(kind: u32, values: *const u64, values_len: usize, stats: *mut [u64; 4], refusal: *mut [u64; 2]);
 
     fn hulemartob_serialize_as(
@@ -243,6 +263,24 @@ pub(crate) fn replay(column: &[u64; 12], table: &[u64], bytes: &[u8], recording:
         )
     };
     answer(refusal, report)
+}
+
+/// The part of the byte at an offset: which, its block, offset, length and number.
+pub(crate) fn part_at(column: &[u64; 12], bytes: &[u8], offset: usize) -> Result<[u64; 5], Refusal> {
+    let (mut part, mut refusal) = ([0; 5], [0; 2]);
+    // SAFETY: see the top of this file.
+    unsafe { hulemartob_part_at(column, bytes.as_ptr(), bytes.len(), offset, &mut part, &mut refusal) };
+    answer(refusal, part)
+}
+
+/// The first row that owns a bit of the byte at an offset, and the one behind the last.
+pub(crate) fn rows_at(column: &[u64; 12], table: &[u64], bytes: &[u8], offset: usize) -> Result<[u64; 2], Refusal> {
+    let (mut rows, mut refusal) = ([0; 2], [0; 2]);
+    // SAFETY: see the top of this file.
+    unsafe {
+        hulemartob_rows_at(column, table.as_ptr(), table.len(), bytes.as_ptr(), bytes.len(), offset, &mut rows, &mut refusal)
+    };
+    answer(refusal, rows)
 }
 
 // ---- values of a kind

@@ -24,7 +24,8 @@
 //! # Ok::<(), hulemartob::Refusal>(())
 //! ```
 //!
-//! Lookups can be recorded ([`RecordingBuilder`], [`Recording`]) and rerun over a column: [`Column::replay`].
+//! Lookups can be recorded ([`RecordingBuilder`], [`Recording`]) and rerun over a column: [`Column::replay`]. What each byte of a column is, and which
+//! rows a byte holds, is [`Column::part_at`] and [`Column::rows_at`].
 //!
 //! A column from another writer can be checked against the list of values that it is to hold: [`check`].
 //!
@@ -36,6 +37,7 @@ compile_error!("libcolumn_c.a is x86-64 code");
 
 mod checks;
 mod ffi;
+mod parts;
 mod recording;
 mod refusal;
 mod typed;
@@ -45,6 +47,7 @@ use std::ops::{Range, RangeInclusive};
 use std::sync::Arc;
 
 pub use checks::{Mismatch, check};
+pub use parts::{Part, PartName};
 pub use recording::{Recorded, Recording, RecordingBuilder, Replay};
 pub use refusal::Refusal;
 pub use typed::{

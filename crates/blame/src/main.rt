@@ -1,0 +1,62 @@
+// Names the bytes at which the columns of two files, named as arguments, differ, with their parts and rows, as text on standard output. The text is the
+// library's, `blaming`; this program moves bytes.
+ghost use Prim.Native.Nat.{_≤_};
+ghost use lib.ListN.{length};
+ghost use Rattle.blaming.specs.Bytes.{blameMax};
+use blaming::Begun;
+use format::Column;
+use libc::STDOUT_FILENO;
+
+// Writes the text of all offsets, a bufferful at a time, and says whether every write went through.
+// Internal: the buffer has room for a longest text, so that each turn looks at an offset at least.
+fn write_bytes(
+    left: Column,
+    ltable: &[u64; 8192],
+    lbytes: &[u8],
+    right: Column,
+    rtable: &[u64; 8192],
+    rbytes: &[u8],
+    out: &mut [u8],
+) -> bool
+    requires { ⌜ blameMax ≤ length (now out) ⌝ }
+{
+    let mut from = 0;
+    while from < lbytes.len() {
+        let took = blaming::fill_lines(left, ltable, lbytes, right, rtable, rbytes, from, out);
+        let n = took.bytes;
+        if !io::write_all(STDOUT_FILENO, &out[..n]) {
+            return false;
+        }
+        from += took.offsets;
+    }
+    true
+}
+
+// Writes the blame of some bytes and others, until a write fails.
+fn write_blame(left: &[u8], right: &[u8]) {
+    let mut ltable = [0u64; 8192];
+    let mut rtable = [0u64; 8192];
+    let mut line = [0u8; 128];
+    match blaming::begin(left, &mut ltable, right, &mut rtable, &mut line) {
+        Begun::Line(n) => {
+            io::write_all(STDOUT_FILENO, &line[..n]);
+        }
+        Begun::Columns(column, against) => {
+            let mut out = io::large_buffer();
+            if !write_bytes(column, &ltable, left, against, &rtable, right, &mut out) {
+                return;
+            }
+            let end = blaming::end_line(column, &ltable, left, right, &mut line);
+            io::write_all(STDOUT_FILENO, &line[..end]);
+        }
+    }
+}
+
+fn main() {
+    // One byte more than a blame takes on each side, so that a longer column is told by its length.
+    let mut left = [0u8; 65537];
+    let mut right = [0u8; 65537];
+    let n = files::read_named(1, &mut left);
+    let m = files::read_named(2, &mut right);
+    write_blame(&left[..n], &right[..m]);
+}

@@ -1,0 +1,69 @@
+-- `put_row` meets its contract: six fields, one behind the other; a row's number has at most ten digits.
+-- Assumes nothing.
+use Prim.Native.Nat.{_≤_}
+use native.Mathlib.Omega.{arith}
+use lib.ListN.{length}
+use Rattle.format.specs.Listing.{ascii, named}
+use Rattle.format.proofs.Stores.{wrote-then}
+use Rattle.text.proofs.Decimals.{length-decimal}
+use Rattle.text.proofs.Texts.{length-named}
+use Rattle.blaming.specs.Bytes.{bothLine}
+use borrow.Author.Needs.{needs}
+use Rattle.blaming.proofs.lines.put_row.Statement.{statement}
+use Rattle.blaming.proofs.lines.put_row.Tie as tie
+
+-- a row's number has at most ten digits
+most : (c : tie.After-slice-known) → length (named (ascii "row ") (c .before .args .row)) ≤ 14
+most c = omega (arith, length-named (ascii "row ") (c .before .args .row), length-decimal 9 (c .before .args .row) (omega arith))
+
+slice-aggregate-put-named : tie.Need-slice-aggregate-put-named
+slice-aggregate-put-named c = search needs
+
+put-named-requires : tie.Need-put-named-requires
+put-named-requires c κs = omega (arith, most (c .before .before))
+
+put-byte-requires : tie.Need-put-byte-requires
+put-byte-requires c κs = omega (arith, most (c .before .before .before .before .before .before))
+
+put-answer-requires : tie.Need-put-answer-requires
+put-answer-requires c κs = omega (arith, most (c .before .before .before .before .before .before .before .before .before .before))
+
+put-byte-requires-2 : tie.Need-put-byte-requires-2
+put-byte-requires-2 c κs = omega (arith, most (c .before .before .before .before .before .before .before .before .before .before .before .before .before .before))
+
+put-answer-requires-2 : tie.Need-put-answer-requires-2
+put-answer-requires-2 c κs = omega (arith, most (c .before .before .before .before .before .before .before .before .before .before .before .before .before .before .before .before .before .before))
+
+put-byte-requires-3 : tie.Need-put-byte-requires-3
+put-byte-requires-3 c κs = omega (arith, most (c .before .before .before .before .before .before .before .before .before .before .before .before .before .before .before .before .before .before .before .before .before .before))
+
+same-length : tie.Need-same-length
+same-length c = search needs
+
+returns : tie.Need-returns
+unfolding bothLine
+returns c =
+    let end = c .before .before in
+    let second = end .before .before .before .before in
+    let between = second .before .before .before .before in
+    let first = between .before .before .before .before in
+    let space = first .before .before .before .before in
+    let number = space .before .before .before .before in (
+      wrote-then (number .put-named .ensures) (wrote-then (space .put-byte .ensures) (wrote-then (first .put-answer .ensures .0)
+          (wrote-then (between .put-byte2 .ensures) (wrote-then (second .put-answer2 .ensures .0) (end .put-byte3 .ensures))))),
+      omega (arith, most (number .before .before .before)),
+    )
+
+pub put-row-spec : {M : Type 1} → statement M
+put-row-spec =
+    tie.close
+    (tie.spec
+    slice-aggregate-put-named
+    put-named-requires
+    put-byte-requires
+    put-answer-requires
+    put-byte-requires-2
+    put-answer-requires-2
+    put-byte-requires-3
+    same-length
+    returns)

@@ -1,0 +1,9 @@
+-- Laws; the head of each file lists what it offers.
+
+-- how an explanation begins
+pub mod Beginnings
+-- parts by their number
+pub mod Placing
+-- what the calls come to
+pub mod Explanations
+pub mod Determined
