@@ -1,6 +1,6 @@
 // The text of an offset: a byte that differs, and the rows that it names.
 ghost use mathlib.Core.Path.{_≡_};
-ghost use Prim.Native.Nat.{_+_, _*_, _-_, _≤_, _<_};
+ghost use Prim.Native.Nat.{_+_, _-_, _≤_, _<_};
 ghost use lib.ListN.{length};
 ghost use Rattle.format.specs.Listing.{rowTexts};
 ghost use Rattle.format.specs.Outcome.{Wrote};
