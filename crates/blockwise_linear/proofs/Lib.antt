@@ -3,6 +3,7 @@
 -- reading the footer
 pub mod Footers
 pub mod Passes
+pub mod Stops
 pub mod Lasts
 -- reading rows
 pub mod Rows

@@ -36,7 +36,7 @@ first-alone (Longer offset) = refl
 -- ---- a block and those behind it
 
 -- a table behind a block's four numbers
-abbrev before : Step → Table → Table
+abbrev pub before : Step → Table → Table
 before t later =
     record {
       numbers = t .block .line .slope ∷ t .block .line .intercept ∷ t .block .bits ∷ t .block .start ∷ later .numbers;
@@ -44,7 +44,7 @@ before t later =
       spelling = firstOf (t .spelling) (later .spelling);
     }
 
-abbrev behind : Step → Outcome Table → Outcome Table
+abbrev pub behind : Step → Outcome Table → Outcome Table
 behind t o = o >>= (λ (later : Table). value (before t later))
 
 -- no rows are left: no blocks

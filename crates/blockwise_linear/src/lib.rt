@@ -1,2 +1,3 @@
 // Blockwise: lines trained on blocks of 512 values, each block's residuals packed at a width of its own.
+pub mod passing;
 pub mod reader;

@@ -34,7 +34,7 @@ use format::Window;
 use line::FieldsRead;
 
 // A block of a table that has none.
-const NO_BLOCK: Block = Block {
+pub(crate) const NO_BLOCK: Block = Block {
     line: Line {
         slope: 0,
         intercept: 0,

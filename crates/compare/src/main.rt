@@ -2,9 +2,10 @@
 ghost use Prim.Native.Nat.{_≤_};
 ghost use lib.ListN.{length};
 ghost use Rattle.comparison.specs.Chunk.{pairMax};
+ghost use Rattle.text.specs.Own.{Owned};
 use comparison::Begun;
-use format::Column;
 use libc::STDOUT_FILENO;
+use text::own::Own;
 
 // How many lines were written, and whether every write went through.
 struct Lines {
@@ -12,24 +13,22 @@ struct Lines {
     whole: bool,
 }
 
-// Writes the lines of all rows that differ, a bufferful at a time, until a write fails.
-// Internal: the buffer has room for a longest line, so that each turn looks at a row at least.
-fn write_rows(
-    left: Column,
-    ltable: &[u64; 8192],
-    lbytes: &[u8],
-    right: Column,
-    rtable: &[u64; 8192],
-    rbytes: &[u8],
-    out: &mut [u8],
-) -> Lines
+// Internal: asks for two columns, each opened of its bytes, and for a buffer that has room for a longest line, so that each turn looks at a row at least. Writes the lines of all rows that
+// differ, a bufferful at a time, until a write fails.
+fn write_rows(left: Own, lbytes: &[u8], right: Own, rbytes: &[u8], out: &mut [u8]) -> Lines
+    requires { ⌜ Owned (now lbytes) (left .column) (left .pass) ⌝ }
+    requires { ⌜ Owned (now rbytes) (right .column) (right .pass) ⌝ }
     requires { ⌜ pairMax ≤ length (now out) ⌝ }
 {
-    let rows = comparison::row_count(left, right);
+    let rows = comparison::row_count(left.column, right.column);
+    let mut l = left;
+    let mut r = right;
     let mut from = 0;
     let mut count = 0;
     while from < rows {
-        let took = comparison::fill_lines(left, ltable, lbytes, right, rtable, rbytes, from, out);
+        l = text::own::reach(l, lbytes, from);
+        r = text::own::reach(r, rbytes, from);
+        let took = comparison::fill_lines(l, lbytes, r, rbytes, from, out);
         let n = took.bytes;
         if !io::write_all(STDOUT_FILENO, &out[..n]) {
             return Lines {
@@ -45,16 +44,14 @@ fn write_rows(
 
 // Writes the comparison of some bytes with others, until a write fails.
 fn write_comparison(left: &[u8], right: &[u8]) {
-    let mut ltable = [0u64; 8192];
-    let mut rtable = [0u64; 8192];
     let mut line = [0u8; 128];
-    match comparison::begin(left, &mut ltable, right, &mut rtable, &mut line) {
+    match comparison::begin(left, right, &mut line) {
         Begun::Refused(n) => {
             io::write_all(STDOUT_FILENO, &line[..n]);
         }
-        Begun::Columns(column, against) => {
+        Begun::Columns(own, its) => {
             let mut out = io::large_buffer();
-            let lines = write_rows(column, &ltable, left, against, &rtable, right, &mut out);
+            let lines = write_rows(own, left, its, right, &mut out);
             if !lines.whole {
                 return;
             }

@@ -1,22 +1,18 @@
 // Compares columns of each pair of codecs, with equal and unequal answers, and of each refusal that a comparison can begin with, each below its title, through
 // the calls that `compare` makes. tools/answers/shown has the model say what it has to print.
+ghost use Rattle.text.specs.Own.{Owned};
 use comparison::Begun;
 use comparison::Compared;
-use format::Column;
 use libc::STDOUT_FILENO;
+use text::own::Own;
 
-// Writes the lines of the rows from `from` on that differ for which a small buffer has room, and returns what was taken.
-fn show_rows(
-    left: Column,
-    ltable: &[u64; 8192],
-    lbytes: &[u8],
-    right: Column,
-    rtable: &[u64; 8192],
-    rbytes: &[u8],
-    from: u32,
-) -> Compared {
+// Internal: asks for two columns, each opened of its bytes. Writes the lines of the rows from `from` on that differ for which a small buffer has room, and returns what was taken.
+fn show_rows(left: Own, lbytes: &[u8], right: Own, rbytes: &[u8], from: u32) -> Compared
+    requires { ⌜ Owned (now lbytes) (left .column) (left .pass) ⌝ }
+    requires { ⌜ Owned (now rbytes) (right .column) (right .pass) ⌝ }
+{
     let mut out = io::buffer();
-    let took = comparison::fill_lines(left, ltable, lbytes, right, rtable, rbytes, from, &mut out);
+    let took = comparison::fill_lines(left, lbytes, right, rbytes, from, &mut out);
     let n = took.bytes;
     io::write_all(STDOUT_FILENO, &out[..n]);
     took
@@ -25,16 +21,14 @@ fn show_rows(
 // Writes a title and the comparison of some bytes with others. Two buffers have room for the lines of every pair here.
 fn show(title: &[u8], left: &[u8], right: &[u8]) {
     io::write_all(STDOUT_FILENO, title);
-    let mut ltable = [0u64; 8192];
-    let mut rtable = [0u64; 8192];
     let mut line = [0u8; 128];
-    match comparison::begin(left, &mut ltable, right, &mut rtable, &mut line) {
+    match comparison::begin(left, right, &mut line) {
         Begun::Refused(n) => {
             io::write_all(STDOUT_FILENO, &line[..n]);
         }
         Begun::Columns(a, b) => {
-            let first = show_rows(a, &ltable, left, b, &rtable, right, 0);
-            let next = show_rows(a, &ltable, left, b, &rtable, right, first.rows);
+            let first = show_rows(a, left, b, right, 0);
+            let next = show_rows(a, left, b, right, first.rows);
             let lines = std::num::wrapping_add_u32(first.lines, next.lines);
             let end = comparison::end_line(lines, &mut line);
             io::write_all(STDOUT_FILENO, &line[..end]);

@@ -25,9 +25,10 @@ use Rattle.format.proofs.Laid.{opened-laid, opened-whole}
 use Rattle.format.proofs.Lists.{below-or}
 use Rattle.format.proofs.Rows.{own-row}
 use Rattle.text.specs.Chunk.{chunks}
+use Rattle.text.specs.Own.{ownRow}
 use Rattle.text.proofs.Chunks.{chunk-within}
 use Rattle.text.proofs.Limits.{here-opened}
-use Rattle.text.proofs.Rows.{here-rows, here-lacking, here-answers, here-sayable}
+use Rattle.text.proofs.Rows.{here-rows, here-lacking, here-answers, own-reads, own-sayable}
 use Rattle.comparison.specs.Beginning.{onlyLine}
 use Rattle.comparison.specs.Chunk.{pairMax, textOf, pairChunk, lineCounts}
 use Rattle.comparison.proofs.RowLines.{text-most}
@@ -96,26 +97,23 @@ module _ (s t : List ℕ) (o p : Loaded) (e : openedHere s ≡ value o) (f : ope
   both = rw (e, f)
 
   -- chunk after chunk, and the last line with the sum of their lines
-  pub comparison-chunks : (ltable rtable : List ℕ) → 8192 ≤ length ltable → 8192 ≤ length rtable → (room : ℕ) → pairMax ≤ room →
-      chunks rows (textOf (answered o ltable s) (answered p rtable t)) pairMax rows room 0
-      ++ namedLine (ascii "lines ") (lineCounts rows (answered o ltable s) (answered p rtable t) rows room 0)
+  pub comparison-chunks : (room : ℕ) → pairMax ≤ room →
+      chunks rows (textOf (ownRow (o .column) s) (ownRow (p .column) t)) pairMax rows room 0
+      ++ namedLine (ascii "lines ") (lineCounts rows (ownRow (o .column) s) (ownRow (p .column) t) rows room 0)
       ≡ comparison s t
-  comparison-chunks ltable rtable l m room free =
-      let left : answered o ltable s ≡ rowAt (o .column) (o .table) s = (λ i r. here-answers s o e ltable l r i) in
-      let right : answered p rtable t ≡ rowAt (p .column) (p .table) t = (λ i r. here-answers t p f rtable m r i) in
-      chunks-compared (answered o ltable s) (answered p rtable t) rows room free
-      ∙ ap (λ (g : ℕ → Outcome ℕ). compared g (answered p rtable t) rows) left
-      ∙ ap (λ (g : ℕ → Outcome ℕ). compared (rowAt (o .column) (o .table) s) g rows) right
+  comparison-chunks room free =
+      chunks-compared (ownRow (o .column) s) (ownRow (p .column) t) rows room free
+      ∙ ap (λ (g : ℕ → Outcome ℕ). compared g (ownRow (p .column) t) rows) (own-reads s o e)
+      ∙ ap (λ (g : ℕ → Outcome ℕ). compared (rowAt (o .column) (o .table) s) g rows) (own-reads t p f)
       ∙ sym both
 
   -- within the room
-  pub comparison-within : (ltable rtable : List ℕ) → 8192 ≤ length ltable → 8192 ≤ length rtable → (room r : ℕ)
-      → length (pairChunk (answered o ltable s) (answered p rtable t) rows room r) ≤ room
-  comparison-within ltable rtable l m room r =
+  pub comparison-within : (room r : ℕ) → length (pairChunk (ownRow (o .column) s) (ownRow (p .column) t) rows room r) ≤ room
+  comparison-within room r =
       let left = opened-laid s 2048 o (here-opened s o e) in
       let right = opened-laid t 2048 p (here-opened t p f) in
-      chunk-within (textOf (answered o ltable s) (answered p rtable t)) pairMax rows room r
-      (λ i h. text-most i (answered o ltable s i) (answered p rtable t i) (omega (arith, all, left .head .few, right .head .few)) (here-sayable s o e ltable l i) (here-sayable t p f rtable m i))
+      chunk-within (textOf (ownRow (o .column) s) (ownRow (p .column) t)) pairMax rows room r
+      (λ i h. text-most i (ownRow (o .column) s i) (ownRow (p .column) t i) (omega (arith, all, left .head .few, right .head .few)) (own-sayable s o e i) (own-sayable t p f i))
 
   -- a row of one side only has a line
   pub lacks-left : (x : ℕ) → o .column .rows ≤ x → x < p .column .rows → equalAnswers (rowAt (o .column) (o .table) s x) (rowAt (p .column) (p .table) t x) ≡ false

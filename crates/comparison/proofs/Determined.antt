@@ -9,30 +9,28 @@ use lib.Seq.{sets}
 use Rattle.format.specs.declared.Column.{Column}
 use Rattle.format.specs.Listing.{ascii, namedLine, openedHere}
 use Rattle.format.specs.Outcome.{Wrote}
-use Rattle.format.specs.Reading.{rowAt}
+use Rattle.text.specs.Own.{ownRow}
 use Rattle.comparison.specs.declared.Begun.{Begun}
 use Rattle.comparison.specs.declared.Compared.{Compared}
 use Rattle.comparison.specs.Beginning.{BegunAs}
 use Rattle.comparison.specs.Chunk.{pairChunk, comparedIn}
 
--- two answers of `begin`, and what the lent tables and the line hold afterwards
-pub begin-determined : (s t ltable rtable line : List ℕ) (a b : Begun) (left left′ right right′ new new′ : List ℕ)
-    → BegunAs (openedHere s) (openedHere t) a ltable left rtable right line new → BegunAs (openedHere s) (openedHere t) b ltable left′ rtable right′ line new′
-    → (a ≡ b) × (left ≡ left′) × (right ≡ right′) × (new ≡ new′)
-begin-determined s t ltable rtable line a b left left′ right right′ new new′ p q =
-    (p .answer ∙ sym (q .answer), p .left-table ∙ sym (q .left-table), p .right-table ∙ sym (q .right-table), p .line ∙ sym (q .line))
+-- two answers of `begin`, and what the lent line holds afterwards
+pub begin-determined : (s t line : List ℕ) (a b : Begun) (new new′ : List ℕ)
+    → BegunAs s t (openedHere s) (openedHere t) a line new → BegunAs s t (openedHere s) (openedHere t) b line new′ → (a ≡ b) × (new ≡ new′)
+begin-determined s t line a b new new′ p q = (p .answer ∙ sym (q .answer), p .line ∙ sym (q .line))
 
 -- two answers of `row_count`
 pub row-count-determined : (left right : Column) (a b : ℕ) → a ≡ max (left .window .rows) (right .window .rows) → b ≡ max (left .window .rows) (right .window .rows) → a ≡ b
 row-count-determined left right a b p q = p ∙ sym q
 
 -- two answers of `fill_lines`, and what the lent buffer holds afterwards
-module _ (left : Column) (ltable lbytes : List ℕ) (right : Column) (rtable rbytes : List ℕ) (from : ℕ) (out : List ℕ) where
+module _ (left : Column) (lbytes : List ℕ) (right : Column) (rbytes : List ℕ) (from : ℕ) (out : List ℕ) where
   abbrev answer : Compared
-  answer = comparedIn (rowAt left ltable lbytes) (rowAt right rtable rbytes) (max (left .window .rows) (right .window .rows)) (length out) from
+  answer = comparedIn (ownRow left lbytes) (ownRow right rbytes) (max (left .window .rows) (right .window .rows)) (length out) from
 
   abbrev written : List ℕ
-  written = sets out 0 (pairChunk (rowAt left ltable lbytes) (rowAt right rtable rbytes) (max (left .window .rows) (right .window .rows)) (length out) from)
+  written = sets out 0 (pairChunk (ownRow left lbytes) (ownRow right rbytes) (max (left .window .rows) (right .window .rows)) (length out) from)
 
   pub fill-lines-determined : (a b : Compared) (new new′ : List ℕ) → a ≡ answer → b ≡ answer → new ≡ written → new′ ≡ written → (a ≡ b) × (new ≡ new′)
   fill-lines-determined a b new new′ p q n m = (p ∙ sym q, n ∙ sym m)

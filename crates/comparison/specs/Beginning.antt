@@ -7,8 +7,9 @@ use lib.ListN.{length}
 use lib.Seq.{sets}
 use Rattle.io.specs.Counts.{Counts}
 use Rattle.format.specs.Listing.{ascii, namedLine}
-use Rattle.format.specs.Opening.{Loaded, tableIn}
-use Rattle.format.specs.Outcome.{Outcome, Outcome.value, Outcome.refusal, _>>=_, stored}
+use Rattle.format.specs.Opening.{Loaded}
+use Rattle.format.specs.Outcome.{Outcome, Outcome.value, Outcome.refusal}
+use Rattle.text.specs.Own.{ownFirst}
 use Rattle.comparison.specs.declared.Begun.{Begun}
 use Rattle.comparison.specs.declared.Begun.the-variants.{Columns, Refused}
 
@@ -19,24 +20,18 @@ onlyLine (value o) (refusal number also) = namedLine (ascii "right refused ") nu
 onlyLine (value o) (value p) = []
 
 -- the answer
-abbrev pub begun : (left right : Outcome Loaded) → Begun
-begun (refusal number also) right = Refused (length (namedLine (ascii "left refused ") number))
-begun (value o) (refusal number also) = Refused (length (namedLine (ascii "right refused ") number))
-begun (value o) (value p) = Columns (o .column) (p .column)
+abbrev pub begun : (s t : List ℕ) (left right : Outcome Loaded) → Begun
+begun s t (refusal number also) right = Refused (length (namedLine (ascii "left refused ") number))
+begun s t (value o) (refusal number also) = Refused (length (namedLine (ascii "right refused ") number))
+begun s t (value o) (value p) = Columns (ownFirst s (o .column)) (ownFirst t (p .column))
 
 -- the line's length in it
 abbrev pub lineLength : Begun → ℕ
 lineLength (Columns c d) = 0
 lineLength (Refused n) = n
 
--- the numbers for a side's table: none where the other side does not open either
-abbrev pub tableWith : (other side : Outcome Loaded) → Outcome (List ℕ)
-tableWith other side = other >>= (λ (_ : Loaded). tableIn side)
-
--- the answer, what each side's table holds, and the line before and after, whose first bytes the answer counts
-pub record BegunAs (left right : Outcome Loaded) (r : Begun) (ltable ltable′ rtable rtable′ old new : List ℕ) : Type 0 where
-  pub answer : r ≡ begun left right
-  pub left-table : ltable′ ≡ stored (tableWith right left) ltable
-  pub right-table : rtable′ ≡ stored (tableWith left right) rtable
+-- the answer for two byte strings by what opening them found, and the line before and after, whose first bytes the answer counts
+pub record BegunAs (s t : List ℕ) (left right : Outcome Loaded) (r : Begun) (old new : List ℕ) : Type 0 where
+  pub answer : r ≡ begun s t left right
   pub line : new ≡ sets old 0 (onlyLine left right)
   pub counts : Counts (lineLength r) new

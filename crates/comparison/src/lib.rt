@@ -10,22 +10,23 @@ ghost use lib.Seq.{sets};
 ghost use Rattle.io.specs.Counts.{Counts};
 ghost use Rattle.format.specs.Listing.{ascii, namedLine, openedHere};
 ghost use Rattle.format.specs.Outcome.{Wrote};
-ghost use Rattle.format.specs.Reading.{rowAt};
 ghost use Rattle.comparison.specs.Beginning.{BegunAs};
 ghost use Rattle.comparison.specs.Chunk.{pairChunk, comparedIn};
+ghost use Rattle.text.specs.Own.{ownRow, Owned};
 use format::Column;
 use format::Opened;
 use lines::Done;
 use text::lines::named_line;
 use text::lines::refusal_number;
 use text::opening;
+use text::own::Own;
 
 // The longest line of a row.
 const LINE_MAX: usize = 53;
 
 // How a comparison begins: with both columns, left and right, or with the line of the first side that does not open, by its length.
 pub enum Begun {
-    Columns(Column, Column),
+    Columns(Own, Own),
     Refused(usize),
 }
 
@@ -36,16 +37,10 @@ pub struct Compared {
     pub bytes: usize,
 }
 
-// Begins a comparison: opens both sides within a program's limits, and then fills the table of each. Where a side is refused, the left one before the
-// right, both tables stay as they were, and the line that says so, the only one then, is written at the start of the lent one.
-pub fn begin(
-    left: &[u8],
-    ltable: &mut [u64; 8192],
-    right: &[u8],
-    rtable: &mut [u64; 8192],
-    line: &mut [u8; 128],
-) -> Begun
-    ensures { λ r. ⌜ BegunAs (openedHere (now (left .entry))) (openedHere (now (right .entry))) r (now (ltable .entry)) (now (ltable .exit)) (now (rtable .entry)) (now (rtable .exit)) (now (line .entry)) (now (line .exit)) ⌝ }
+// Begins a comparison: opens both sides within a program's limits. Where a side is refused, the left one before the right, the line that says so, the only one then, is written at
+// the start of the lent one.
+pub fn begin(left: &[u8], right: &[u8], line: &mut [u8; 128]) -> Begun
+    ensures { λ r. ⌜ BegunAs (now (left .entry)) (now (right .entry)) (openedHere (now (left .entry))) (openedHere (now (right .entry))) r (now (line .entry)) (now (line .exit)) ⌝ }
 {
     let opened = opening::open_plain(left);
     let Opened::Column(column, _) = opened else {
@@ -57,9 +52,9 @@ pub fn begin(
         let number = refusal_number(other) as u64;
         return Begun::Refused(named_line(b"right refused ", number, line));
     };
-    opening::fill(left, opened, ltable);
-    opening::fill(right, other, rtable);
-    Begun::Columns(column, against)
+    let own = text::own::begin(left, column);
+    let its = text::own::begin(right, against);
+    Begun::Columns(own, its)
 }
 
 // The rows that a comparison looks at: those of the window that has more.
@@ -72,37 +67,39 @@ pub fn row_count(left: Column, right: Column) -> u32
     left.window.rows
 }
 
-// Writes the lines of the rows from `from` on whose answers differ at the start of a buffer, while a longest line has room. Rows with equal answers
-// take none, so a call that meets no other looks at all that are left.
+// Internal: asks for two columns, each opened of its bytes, and a pass over the blocks of each. Writes the lines of the rows from `from` on whose answers differ at the start of a
+// buffer, while a longest line has room. Rows with equal answers take none, so a call that meets no other looks at all that are left.
 pub fn fill_lines(
-    left: Column,
-    ltable: &[u64],
+    left: Own,
     lbytes: &[u8],
-    right: Column,
-    rtable: &[u64],
+    right: Own,
     rbytes: &[u8],
     from: u32,
     out: &mut [u8],
 ) -> Compared
-    ensures { λ r. ⌜ r ≡ comparedIn (rowAt left (now (ltable .entry)) (now (lbytes .entry))) (rowAt right (now (rtable .entry)) (now (rbytes .entry))) (max (left .window .rows) (right .window .rows)) (length (now (out .entry))) from ⌝ }
-    ensures { λ _. ⌜ now (out .exit) ≡ sets (now (out .entry)) 0 (pairChunk (rowAt left (now (ltable .entry)) (now (lbytes .entry))) (rowAt right (now (rtable .entry)) (now (rbytes .entry))) (max (left .window .rows) (right .window .rows)) (length (now (out .entry))) from) ⌝ }
+    requires { ⌜ Owned (now lbytes) (left .column) (left .pass) ⌝ }
+    requires { ⌜ Owned (now rbytes) (right .column) (right .pass) ⌝ }
+    ensures { λ r. ⌜ r ≡ comparedIn (ownRow (left .column) (now (lbytes .entry))) (ownRow (right .column) (now (rbytes .entry))) (max (left .column .window .rows) (right .column .window .rows)) (length (now (out .entry))) from ⌝ }
+    ensures { λ _. ⌜ now (out .exit) ≡ sets (now (out .entry)) 0 (pairChunk (ownRow (left .column) (now (lbytes .entry))) (ownRow (right .column) (now (rbytes .entry))) (max (left .column .window .rows) (right .column .window .rows)) (length (now (out .entry))) from) ⌝ }
     ensures { λ r. ⌜ Counts (r .bytes) (now (out .exit)) ⌝ }
 {
-    let rows = row_count(left, right);
+    let column = left.column;
+    let against = right.column;
+    let rows = row_count(column, against);
     let mut lvalues = [0u64; 512];
     let mut rvalues = [0u64; 512];
-    let mut lheld = text::held::nothing();
-    let mut rheld = text::held::nothing();
+    let mut lheld = text::held::nothing(left.pass);
+    let mut rheld = text::held::nothing(right.pass);
     let mut r = from;
     let mut done = Done { lines: 0, bytes: 0 };
     while r < rows {
         if out.len() - done.bytes < LINE_MAX {
             break;
         }
-        lheld = text::held::hold(left, ltable, lbytes, r, lheld, &mut lvalues);
-        rheld = text::held::hold(right, rtable, rbytes, r, rheld, &mut rvalues);
-        let a = text::held::answer(left, ltable, lbytes, r, lheld, &lvalues);
-        let b = text::held::answer(right, rtable, rbytes, r, rheld, &rvalues);
+        lheld = text::held::hold(column, lbytes, r, lheld, &mut lvalues);
+        rheld = text::held::hold(against, rbytes, r, rheld, &mut rvalues);
+        let a = text::held::answer(column, lbytes, r, lheld, &lvalues);
+        let b = text::held::answer(against, rbytes, r, rheld, &rvalues);
         done = lines::put_row(out, done, r, a, b);
         r += 1;
     }

@@ -2,19 +2,24 @@
 ghost use Prim.Native.Nat.{_≤_};
 ghost use lib.ListN.{length};
 ghost use Rattle.listing.specs.Chunk.{lineMax};
-use format::Column;
+ghost use Rattle.text.specs.Own.{Owned};
 use libc::STDIN_FILENO;
 use libc::STDOUT_FILENO;
 use listing::Begun;
+use text::own::Own;
 
-// Writes the lines of all rows, a bufferful at a time, and says whether every write went through.
-// Internal: the buffer has room for a longest line, so that each turn writes a row at least.
-fn write_rows(column: Column, table: &[u64; 8192], bytes: &[u8], out: &mut [u8]) -> bool
+// Internal: asks for a column that was opened of these bytes, and for a buffer that has room for a longest line, so that each turn writes a row at least. Writes the lines of all rows,
+// a bufferful at a time, and says whether every write went through.
+fn write_rows(own: Own, bytes: &[u8], out: &mut [u8]) -> bool
+    requires { ⌜ Owned (now bytes) (own .column) (own .pass) ⌝ }
     requires { ⌜ lineMax ≤ length (now out) ⌝ }
 {
+    let column = own.column;
+    let mut at = own;
     let mut from = 0;
     while from < column.rows {
-        let took = listing::fill_lines(column, table, bytes, from, out);
+        at = text::own::reach(at, bytes, from);
+        let took = listing::fill_lines(at, bytes, from, out);
         let n = took.bytes;
         if !io::write_all(STDOUT_FILENO, &out[..n]) {
             return false;
@@ -26,21 +31,20 @@ fn write_rows(column: Column, table: &[u64; 8192], bytes: &[u8], out: &mut [u8])
 
 // Writes the listing of some bytes, until a write fails.
 fn write_listing(bytes: &[u8]) {
-    let mut table = [0u64; 8192];
     let mut line = [0u8; 128];
-    match listing::begin(bytes, &mut table, &mut line) {
+    match listing::begin(bytes, &mut line) {
         Begun::Refused(_, n) => {
             io::write_all(STDOUT_FILENO, &line[..n]);
         }
-        Begun::Column(column, n) => {
+        Begun::Column(own, n) => {
             let mut out = io::large_buffer();
             if !io::write_all(STDOUT_FILENO, &line[..n]) {
                 return;
             }
-            if !write_rows(column, &table, bytes, &mut out) {
+            if !write_rows(own, bytes, &mut out) {
                 return;
             }
-            let end = listing::end_line(column, &mut line);
+            let end = listing::end_line(own.column, &mut line);
             io::write_all(STDOUT_FILENO, &line[..end]);
         }
     }

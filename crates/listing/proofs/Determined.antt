@@ -9,25 +9,25 @@ use lib.Seq.{sets}
 use Rattle.format.specs.declared.Column.{Column}
 use Rattle.format.specs.Listing.{ascii, namedLine, rowLine, openedHere}
 use Rattle.format.specs.Outcome.{Wrote}
-use Rattle.format.specs.Reading.{rowAt}
 use Rattle.text.specs.declared.Filled.{Filled}
 use Rattle.text.specs.Chunk.{chunk, filled}
+use Rattle.text.specs.Own.{ownRow}
 use Rattle.listing.specs.declared.Begun.{Begun}
 use Rattle.listing.specs.Beginning.{BegunAs}
 use Rattle.listing.specs.Chunk.{lineMax}
 
--- two answers of `begin`, and what the lent table and line hold afterwards
-pub begin-determined : (s table line : List ℕ) (a b : Begun) (after after′ new new′ : List ℕ)
-    → BegunAs (openedHere s) a table after line new → BegunAs (openedHere s) b table after′ line new′ → (a ≡ b) × (after ≡ after′) × (new ≡ new′)
-begin-determined s table line a b after after′ new new′ p q = (p .answer ∙ sym (q .answer), p .table ∙ sym (q .table), p .line ∙ sym (q .line))
+-- two answers of `begin`, and what the lent line holds afterwards
+pub begin-determined : (s line : List ℕ) (a b : Begun) (new new′ : List ℕ)
+    → BegunAs s (openedHere s) a line new → BegunAs s (openedHere s) b line new′ → (a ≡ b) × (new ≡ new′)
+begin-determined s line a b new new′ p q = (p .answer ∙ sym (q .answer), p .line ∙ sym (q .line))
 
 -- two answers of `fill_lines`, and what the lent buffer holds afterwards
-module _ (column : Column) (table bytes : List ℕ) (from : ℕ) (out : List ℕ) where
+module _ (column : Column) (bytes : List ℕ) (from : ℕ) (out : List ℕ) where
   abbrev answer : Filled
-  answer = filled (rowLine (rowAt column table bytes)) lineMax (column .rows) (length out) from
+  answer = filled (rowLine (ownRow column bytes)) lineMax (column .rows) (length out) from
 
   abbrev written : List ℕ
-  written = sets out 0 (chunk (rowLine (rowAt column table bytes)) lineMax (column .rows) (length out) from)
+  written = sets out 0 (chunk (rowLine (ownRow column bytes)) lineMax (column .rows) (length out) from)
 
   pub fill-lines-determined : (a b : Filled) (new new′ : List ℕ) → a ≡ answer → b ≡ answer → new ≡ written → new′ ≡ written → (a ≡ b) × (new ≡ new′)
   fill-lines-determined a b new new′ p q n m = (p ∙ sym q, n ∙ sym m)

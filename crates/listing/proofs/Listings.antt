@@ -4,20 +4,19 @@
 --     listing-within        each chunk stays in its room
 -- Assumes nothing.
 use Prim.Native.Nat.{ℕ, _-_, _≤_}
-use mathlib.Core.Path.{_≡_, ap, _∙_}
+use mathlib.Core.Path.{_≡_, sym, ap, _∙_}
 use mathlib.Core.List.{List, _++_}
 use native.Mathlib.Omega.{arith}
 use lib.ListN.{length}
 use Rattle.format.specs.Outcome.{Outcome, Outcome.value, Outcome.refusal}
 use Rattle.format.specs.Opening.{Loaded}
-use Rattle.format.specs.Reading.{rowAt}
-use Rattle.format.specs.Demands.{answered}
-use Rattle.format.specs.Listing.{ascii, namedLine, rowLine, rowLines, openedHere, listed, listing}
+use Rattle.format.specs.Listing.{ascii, namedLine, rowLine, rowLines, openedHere, listed, listedOr, listing}
 use Rattle.format.proofs.Laid.{opened-laid}
 use Rattle.text.specs.Chunk.{chunk, chunks}
+use Rattle.text.specs.Own.{ownRow}
 use Rattle.text.proofs.Chunks.{chunk-within, chunks-all}
 use Rattle.text.proofs.Limits.{here-opened}
-use Rattle.text.proofs.Rows.{here-answers, here-sayable}
+use Rattle.text.proofs.Rows.{own-reads, own-sayable}
 use Rattle.listing.specs.Beginning.{columnLine, firstLine}
 use Rattle.listing.specs.Chunk.{lineMax}
 use Rattle.listing.proofs.RowLines.{row-most}
@@ -27,25 +26,26 @@ pub listing-refused : (s : List ℕ) (number : ℕ) (also : List ℕ) → opened
 unfolding listing
 listing-refused s number also e = rw e
 
-module _ (s table : List ℕ) (o : Loaded) (found : openedHere s ≡ value o) (enough : 8192 ≤ length table) where
+module _ (s : List ℕ) (o : Loaded) (found : openedHere s ≡ value o) where
   -- the first line, chunk after chunk, and the last line
   pub listing-chunks : (room : ℕ) → lineMax ≤ room →
       firstLine (openedHere s)
-      ++ (chunks (o .column .rows) (rowLine (answered o table s)) lineMax (o .column .rows) room 0 ++ namedLine (ascii "end ") (o .column .rows))
+      ++ (chunks (o .column .rows) (rowLine (ownRow (o .column) s)) lineMax (o .column .rows) room 0 ++ namedLine (ascii "end ") (o .column .rows))
       ≡ listing s
   unfolding listing listed columnLine
   listing-chunks room free =
       let col = o .column in
       let all : col .rows - 0 ≡ col .rows = omega arith in
-      let own : answered o table s ≡ rowAt col (o .table) s = (λ i r. here-answers s o found table enough r i) in
-      rw found (ap (λ (l : List ℕ). columnLine col ++ (l ++ namedLine (ascii "end ") (col .rows)))
-      (chunks-all (rowLine (answered o table s)) lineMax (col .rows) (col .rows) room 0 free (omega arith)
-      ∙ ap (rowLines (answered o table s) 0) all
-      ∙ ap (λ (read : ℕ → Outcome ℕ). rowLines read 0 (col .rows)) own))
+      ap (λ (x : Outcome Loaded). firstLine x ++ (chunks (col .rows) (rowLine (ownRow col s)) lineMax (col .rows) room 0 ++ namedLine (ascii "end ") (col .rows))) found
+      ∙ (ap (λ (l : List ℕ). columnLine col ++ (l ++ namedLine (ascii "end ") (col .rows)))
+      (chunks-all (rowLine (ownRow col s)) lineMax (col .rows) (col .rows) room 0 free (omega arith)
+      ∙ ap (rowLines (ownRow col s) 0) all
+      ∙ ap (λ (read : ℕ → Outcome ℕ). rowLines read 0 (col .rows)) (own-reads s o found)))
+      ∙ sym (ap (λ (x : Outcome Loaded). listedOr x s) found)
 
   -- within the room
-  pub listing-within : (room r : ℕ) → length (chunk (rowLine (answered o table s)) lineMax (o .column .rows) room r) ≤ room
+  pub listing-within : (room r : ℕ) → length (chunk (rowLine (ownRow (o .column) s)) lineMax (o .column .rows) room r) ≤ room
   listing-within room r =
       let laid = opened-laid s 2048 o (here-opened s o found) in
-      chunk-within (rowLine (answered o table s)) lineMax (o .column .rows) room r
-      (λ i h. row-most (answered o table s) i (omega (arith, laid .head .few)) (here-sayable s o found table enough i))
+      chunk-within (rowLine (ownRow (o .column) s)) lineMax (o .column .rows) room r
+      (λ i h. row-most (ownRow (o .column) s) i (omega (arith, laid .head .few)) (own-sayable s o found i))

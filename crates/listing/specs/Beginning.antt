@@ -8,8 +8,9 @@ use lib.Seq.{sets}
 use Rattle.io.specs.Counts.{Counts}
 use Rattle.format.specs.declared.Column.{Column}
 use Rattle.format.specs.Listing.{ascii, namedLine, headLine, codeOf}
-use Rattle.format.specs.Opening.{Loaded, tableIn}
-use Rattle.format.specs.Outcome.{Outcome, Outcome.value, Outcome.refusal, stored}
+use Rattle.format.specs.Opening.{Loaded}
+use Rattle.format.specs.Outcome.{Outcome, Outcome.value, Outcome.refusal}
+use Rattle.text.specs.Own.{ownFirst}
 use Rattle.listing.specs.declared.Begun.{Begun}
 use Rattle.listing.specs.declared.Begun.the-variants.{Column as BegunColumn, Refused}
 
@@ -23,18 +24,17 @@ firstLine (value o) = columnLine (o .column)
 firstLine (refusal number also) = namedLine (ascii "refused ") number
 
 -- the answer
-abbrev pub begun : Outcome Loaded → Begun
-begun (value o) = BegunColumn (o .column) (length (columnLine (o .column)))
-begun (refusal number also) = Refused number (length (namedLine (ascii "refused ") number))
+abbrev pub begun : (s : List ℕ) → Outcome Loaded → Begun
+begun s (value o) = BegunColumn (ownFirst s (o .column)) (length (columnLine (o .column)))
+begun s (refusal number also) = Refused number (length (namedLine (ascii "refused ") number))
 
 -- the line's length in it
 abbrev pub lineLength : Begun → ℕ
-lineLength (BegunColumn c n) = n
+lineLength (BegunColumn own n) = n
 lineLength (Refused number n) = n
 
--- the answer, the table before and after, and the line before and after, whose first bytes the answer counts
-pub record BegunAs (o : Outcome Loaded) (r : Begun) (before after old new : List ℕ) : Type 0 where
-  pub answer : r ≡ begun o
-  pub table : after ≡ stored (tableIn o) before
+-- the answer for some bytes by what opening them found, and the line before and after, whose first bytes the answer counts
+pub record BegunAs (s : List ℕ) (o : Outcome Loaded) (r : Begun) (old new : List ℕ) : Type 0 where
+  pub answer : r ≡ begun s o
   pub line : new ≡ sets old 0 (firstLine o)
   pub counts : Counts (lineLength r) new

@@ -8,38 +8,40 @@ ghost use lib.Seq.{sets};
 ghost use Rattle.io.specs.Counts.{Counts};
 ghost use Rattle.format.specs.Listing.{ascii, namedLine, rowLine, openedHere};
 ghost use Rattle.format.specs.Outcome.{Wrote};
-ghost use Rattle.format.specs.Reading.{rowAt};
 ghost use Rattle.listing.specs.Beginning.{BegunAs};
 ghost use Rattle.listing.specs.Chunk.{lineMax};
 ghost use Rattle.text.specs.Chunk.{chunk, filled};
+ghost use Rattle.text.specs.Own.{ownRow, Owned};
 use format::Column;
 use format::Opened;
 use text::Filled;
 use text::lines::named_line;
 use text::lines::refusal_number;
+use text::own::Own;
 
 // The longest line of a row.
 const LINE_MAX: usize = 32;
 
 // How a listing begins: with an opened column, or with a refusal, by its number; and the length of the line that says so.
 pub enum Begun {
-    Column(Column, usize),
+    Column(Own, usize),
     Refused(u8, usize),
 }
 
 // Begins a listing: opens the column, and writes the first line at the start of the lent one. A refusal's line is the only one.
-pub fn begin(bytes: &[u8], table: &mut [u64; 8192], line: &mut [u8; 128]) -> Begun
-    ensures { λ r. ⌜ BegunAs (openedHere (now (bytes .entry))) r (now (table .entry)) (now (table .exit)) (now (line .entry)) (now (line .exit)) ⌝ }
+pub fn begin(bytes: &[u8], line: &mut [u8; 128]) -> Begun
+    ensures { λ r. ⌜ BegunAs (now (bytes .entry)) (openedHere (now (bytes .entry))) r (now (line .entry)) (now (line .exit)) ⌝ }
 {
-    let opened = text::opening::open(bytes, table);
+    let opened = text::opening::open_plain(bytes);
     let Opened::Column(column, _) = opened else {
         let number = refusal_number(opened);
         return Begun::Refused(number, lines::refused_line(number, line));
     };
+    let own = text::own::begin(bytes, column);
     let codec = column.codec;
     let max = column.minimum + column.gcd * column.count;
     Begun::Column(
-        column,
+        own,
         lines::head_line(
             lines::code_of(codec),
             column.rows,
@@ -51,23 +53,25 @@ pub fn begin(bytes: &[u8], table: &mut [u64; 8192], line: &mut [u8; 128]) -> Beg
     )
 }
 
-// Writes the lines of the rows from `from` on at the start of a buffer, while a longest line has room. A row that is refused has a line that
-// says so.
-pub fn fill_lines(column: Column, table: &[u64], bytes: &[u8], from: u32, out: &mut [u8]) -> Filled
-    ensures { λ r. ⌜ r ≡ filled (rowLine (rowAt column (now (table .entry)) (now (bytes .entry)))) lineMax (column .rows) (length (now (out .entry))) from ⌝ }
-    ensures { λ _. ⌜ now (out .exit) ≡ sets (now (out .entry)) 0 (chunk (rowLine (rowAt column (now (table .entry)) (now (bytes .entry)))) lineMax (column .rows) (length (now (out .entry))) from) ⌝ }
+// Internal: asks for a column that was opened of these bytes, and a pass over its blocks. Writes the lines of the rows from `from` on at the start of a buffer, while a longest
+// line has room. A row that is refused has a line that says so.
+pub fn fill_lines(own: Own, bytes: &[u8], from: u32, out: &mut [u8]) -> Filled
+    requires { ⌜ Owned (now bytes) (own .column) (own .pass) ⌝ }
+    ensures { λ r. ⌜ r ≡ filled (rowLine (ownRow (own .column) (now (bytes .entry)))) lineMax (own .column .rows) (length (now (out .entry))) from ⌝ }
+    ensures { λ _. ⌜ now (out .exit) ≡ sets (now (out .entry)) 0 (chunk (rowLine (ownRow (own .column) (now (bytes .entry)))) lineMax (own .column .rows) (length (now (out .entry))) from) ⌝ }
     ensures { λ r. ⌜ Counts (r .bytes) (now (out .exit)) ⌝ }
 {
+    let column = own.column;
     let mut values = [0u64; 512];
-    let mut held = text::held::nothing();
+    let mut held = text::held::nothing(own.pass);
     let mut r = from;
     let mut at = 0;
     while r < column.rows {
         if out.len() - at < LINE_MAX {
             break;
         }
-        held = text::held::hold(column, table, bytes, r, held, &mut values);
-        let answer = text::held::answer(column, table, bytes, r, held, &values);
+        held = text::held::hold(column, bytes, r, held, &mut values);
+        let answer = text::held::answer(column, bytes, r, held, &values);
         at = lines::put_row(out, at, r, answer);
         r += 1;
     }

@@ -1,12 +1,15 @@
 // Lists a column of each codec and of each refusal that a listing can begin with, each below its title, through the calls that `list` makes.
-use format::Column;
+ghost use Rattle.text.specs.Own.{Owned};
 use libc::STDOUT_FILENO;
 use listing::Begun;
+use text::own::Own;
 
-// Writes the lines of the rows from `from` on for which a small buffer has room, and returns how many rows they are.
-fn show_rows(column: Column, table: &[u64; 8192], bytes: &[u8], from: u32) -> u32 {
+// Internal: asks for a column that was opened of these bytes. Writes the lines of the rows from `from` on for which a small buffer has room, and returns how many rows they are.
+fn show_rows(own: Own, bytes: &[u8], from: u32) -> u32
+    requires { ⌜ Owned (now bytes) (own .column) (own .pass) ⌝ }
+{
     let mut out = io::buffer();
-    let took = listing::fill_lines(column, table, bytes, from, &mut out);
+    let took = listing::fill_lines(own, bytes, from, &mut out);
     let n = took.bytes;
     io::write_all(STDOUT_FILENO, &out[..n]);
     took.rows
@@ -15,17 +18,16 @@ fn show_rows(column: Column, table: &[u64; 8192], bytes: &[u8], from: u32) -> u3
 // Writes a title and the listing of some bytes. Two buffers have room for the rows of every column here.
 fn show(title: &[u8], bytes: &[u8]) {
     io::write_all(STDOUT_FILENO, title);
-    let mut table = [0u64; 8192];
     let mut line = [0u8; 128];
-    match listing::begin(bytes, &mut table, &mut line) {
+    match listing::begin(bytes, &mut line) {
         Begun::Refused(_, n) => {
             io::write_all(STDOUT_FILENO, &line[..n]);
         }
-        Begun::Column(column, n) => {
+        Begun::Column(own, n) => {
             io::write_all(STDOUT_FILENO, &line[..n]);
-            let next = show_rows(column, &table, bytes, 0);
-            show_rows(column, &table, bytes, next);
-            let end = listing::end_line(column, &mut line);
+            let next = show_rows(own, bytes, 0);
+            show_rows(own, bytes, next);
+            let end = listing::end_line(own.column, &mut line);
             io::write_all(STDOUT_FILENO, &line[..end]);
         }
     }

@@ -1,11 +1,11 @@
 // Reading a row, with its block out of the table.
 ghost use mathlib.Core.Path.{_≡_};
 ghost use mathlib.Core.Bool.{true, _||_};
-ghost use Prim.Native.Nat.{_+_, _*_, _%_, _^_, _≤_};
+ghost use Prim.Native.Nat.{_+_, _*_, _%_, _^_, _≤_, _<_};
 ghost use lib.Dec.{leb, eqb};
 ghost use lib.ListN.{length};
 ghost use Rattle.format.specs.Packing.{legal};
-ghost use Rattle.format.specs.Reading.{hasBlock, windowFits, placeOf, columnFits, rowFits, fits, valueAt, rowIn};
+ghost use Rattle.format.specs.Reading.{columnRow, hasBlock, windowFits, placeOf, columnFits, rowFits, fits, valueAt, askedAs, rowIn};
 ghost use Rattle.format.specs.Runs.{readRun};
 ghost use Rattle.format.specs.Refusals.{rowMeaning};
 ghost use Rattle.reading.specs.Chunks.{DecodedAs, FilledAs, Chunk, Fitting};
@@ -149,8 +149,21 @@ fn value_of(column: Column, block: Block, bytes: &[u8], row: ColumnRow) -> RowRe
     }
 }
 
+// Internal: asks for a row below 2^32 at which all fits together. Its value, with no test but that of the bounds; a row out of bounds is named as it was asked for.
+pub fn row_fitting(column: Column, block: Block, bytes: &[u8], row: WindowRow) -> RowRead
+    requires { ⌜ columnRow column (row .0) < 2 ^ 32 ⌝ }
+    requires { ⌜ Fitting column (placeOf column block (columnRow column (row .0))) (now bytes) ⌝ }
+    ensures { λ r. ⌜ rowMeaning r ≡ askedAs (row .0) (valueAt column block (now (bytes .entry)) (columnRow column (row .0))) ⌝ }
+{
+    let at = column_row(column.window.first, row);
+    match value_of(column, block, bytes, at) {
+        RowRead::Value(v) => RowRead::Value(v),
+        RowRead::Refused(_) => RowRead::Refused(Refusal::OutOfBounds { row: row.0 }),
+    }
+}
+
 // A row of the column's window, with its block out of a table of so many: whether there is such a row, whether column, table and
-// bytes fit together there, and its value. A row out of bounds is named as it was asked for.
+// bytes fit together there, and its value.
 pub fn row_in(column: Column, blocks: usize, block: Block, bytes: &[u8], row: WindowRow) -> RowRead
     ensures { λ r. ⌜ rowMeaning r ≡ rowIn column blocks block (now (bytes .entry)) (row .0) ⌝ }
 {
@@ -161,10 +174,7 @@ pub fn row_in(column: Column, blocks: usize, block: Block, bytes: &[u8], row: Wi
     if !fits(column, blocks, block, bytes, at) {
         return RowRead::Refused(Refusal::Unfit);
     }
-    match value_of(column, block, bytes, at) {
-        RowRead::Value(v) => RowRead::Value(v),
-        RowRead::Refused(_) => RowRead::Refused(Refusal::OutOfBounds { row: row.0 }),
-    }
+    row_fitting(column, block, bytes, row)
 }
 
 // What decoding a chunk finds: the values of its rows, which fill the list, or its first refused row.
@@ -198,7 +208,7 @@ fn decode_rows(
 }
 
 // Internal: asks for rows of the column, in one block, that fit as a whole. Their values with no test but that of the bounds; returns how many rows stand in the list.
-fn decode_fitting(
+pub fn decode_fitting(
     column: Column,
     block: Block,
     bytes: &[u8],

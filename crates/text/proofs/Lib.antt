@@ -7,6 +7,7 @@ pub mod Texts
 pub mod Limits
 pub mod Rows
 -- rows in ascending order
+pub mod Owns
 pub mod Holding
 -- rows' text, chunk by chunk
 pub mod Chunks

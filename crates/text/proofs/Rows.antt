@@ -1,8 +1,9 @@
 -- What the rows of a column answer that a program opened.
---     here-rows           its window has all rows
+--     here-first, here-rows     its window has all rows
 --     here-lacking        a row that it lacks: 12
 --     here-answers        a lent table that was filled answers as the opening's own numbers do
---     here-sayable        an answer is one that a line has room for
+--     own-reads           with its own bytes it reads by the opening's own numbers
+--     own-sayable         an answer is one that a line has room for
 -- Assumes nothing.
 use Prim.Native.Nat.{ℕ, _+_, _*_, _/_, _%_, _^_, _≤_, _<_}
 use mathlib.Core.Path.{_≡_, refl, sym, ap, _∙_}
@@ -27,7 +28,8 @@ use Rattle.format.specs.Demands.{filledBy, answered}
 use Rattle.format.specs.Listing.{openedHere}
 use Rattle.format.proofs.Laid.{opened-laid, opened-whole}
 use Rattle.format.proofs.Lists.{below-or}
-use Rattle.format.proofs.Rows.{filled-row, answer-is}
+use Rattle.format.proofs.Rows.{filled-row, row-answers}
+use Rattle.text.specs.Own.{tableOf, ownRow}
 use Rattle.text.proofs.Limits.{here-opened}
 use Rattle.text.proofs.Texts.{Sayable}
 
@@ -62,8 +64,8 @@ asked-sayable r (refusal number also) h = h
 
 module _ (s : List ℕ) (o : Loaded) (found : openedHere s ≡ value o) where
   -- its window is the whole column
-  from : 0 ≡ o .column .window .first
-  from = ap (λ (l : Loaded). l .column .window .first) (opened-whole s 2048 o (here-opened s o found))
+  pub here-first : 0 ≡ o .column .window .first
+  here-first = ap (λ (l : Loaded). l .column .window .first) (opened-whole s 2048 o (here-opened s o found))
 
   pub here-rows : o .column .rows ≡ o .column .window .rows
   here-rows = ap (λ (l : Loaded). l .column .window .rows) (opened-whole s 2048 o (here-opened s o found))
@@ -73,23 +75,27 @@ module _ (s : List ℕ) (o : Loaded) (found : openedHere s ≡ value o) where
   unfolding rowIn
   here-lacking r table h = rw (le-ltb r (o .column .window .rows) (omega (arith, here-rows)))
 
+  -- by the table that its opening finds
+  pub own-reads : ownRow (o .column) s ≡ rowAt (o .column) (o .table) s
+  own-reads = λ i r. rowAt (o .column) (tableOf (found i)) s r
+
   -- by a lent table that was filled
   pub here-answers : (table : List ℕ) → 8192 ≤ length table → (r : ℕ) → answered o table s r ≡ rowAt (o .column) (o .table) s r
   here-answers table enough r =
       ⊎-elim
       (λ inside. let laid = opened-laid s 2048 o (here-opened s o found) in
-      filled-row o table s r (omega (arith, laid .table)) (laid .rows .present (columnRow (o .column) r) (omega (arith, from))))
+      filled-row o table s r (omega (arith, laid .table)) (laid .rows .present (columnRow (o .column) r) (omega (arith, here-first))))
       (λ over. here-lacking r (filledBy o table) over ∙ sym (here-lacking r (o .table) over))
       (below-or r (o .column .rows))
 
   -- a value inside the column's bounds, 14, or 12
-  pub here-sayable : (table : List ℕ) → 8192 ≤ length table → (r : ℕ) → Sayable (answered o table s r)
-  here-sayable table enough r =
+  pub own-sayable : (r : ℕ) → Sayable (ownRow (o .column) s r)
+  own-sayable r =
       ⊎-elim
       (λ inside. let laid = opened-laid s 2048 o (here-opened s o found) in
       let q = columnRow (o .column) r in
-      rw (answer-is laid s (omega arith) r (omega (arith, here-rows)) table enough)
+      rw (found, row-answers laid s (omega arith) r (omega (arith, here-rows)))
       (asked-sayable r (valueAt (o .column) (blockAt (o .table) (q / 512)) s q)
       (value-sayable (o .column) (laid .head .bounds) (o .column .codec) (blockAt (o .table) (q / 512)) q (packedOf (o .column) (blockAt (o .table) (q / 512)) s q))))
-      (λ over. rw (here-lacking r (filledBy o table) over) (omega arith))
+      (λ over. rw (here-lacking r (tableOf (openedHere s)) over) (omega arith))
       (below-or r (o .column .rows))

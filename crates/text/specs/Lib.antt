@@ -1,3 +1,4 @@
 pub mod Chunk
 pub mod Holding
+pub mod Own
 pub mod Refused

@@ -1,78 +1,71 @@
-// Rows in ascending order, a chunk at a time: a list holds the values of the chunk at hand. A row that it does not hold, be it that reading refuses the row or one before it in the
-// chunk, or that there is no such row, is read by itself; so a chunk is decoded once, however many of its rows are refused.
+// Rows in ascending order, a chunk at a time: a list holds the values of the chunk at hand, with the column's block there. A row that it does not hold, be it that reading
+// refuses a row of the chunk, or that there is no such row, is read by itself; so a chunk is decoded once, however many of its rows are refused.
 ghost use mathlib.Core.Path.{_≡_};
-ghost use Rattle.format.specs.Reading.{rowAt};
+ghost use Prim.Native.Nat.{_<_};
 ghost use Rattle.format.specs.Refusals.{rowMeaning};
-ghost use Rattle.reading.specs.Stretch.{counted};
-ghost use Rattle.text.specs.Holding.{Holds};
+ghost use Rattle.text.specs.Holding.{Holds, HoldsAt};
+ghost use Rattle.text.specs.Own.{ownRow};
+use crate::own;
+use blockwise_linear::passing::Pass;
 use format::Column;
+use format::Refusal;
 use format::RowRead;
-use format::WindowRow;
-use reading::taking::Stretch;
 
-// What a list holds: the values of so many rows from `first` on, out of a block.
+// What a list holds: the values of so many rows from `first` on, out of a block, at which the pass stands if it is one of the column's.
 pub struct Held {
+    pub pass: Pass,
     pub block: u32,
     pub first: u32,
     pub count: usize,
 }
 
 // Nothing, out of a block that no row is of.
-pub fn nothing() -> Held
-    ensures { λ r. ⌜ r .count ≡ 0 ⌝ }
+pub fn nothing(pass: Pass) -> Held
+    ensures { λ r. ⌜ (r .pass ≡ pass) × (r .block ≡ 4294967295) × (r .count ≡ 0) ⌝ }
 {
     Held {
+        pass,
         block: 0xffff_ffff,
         first: 0,
         count: 0,
     }
 }
 
-// How many values a chunk has before its end, or before its first refused row.
-fn values_of(stretch: Stretch) -> usize
-    ensures { λ r. ⌜ r ≡ counted stretch ⌝ }
+// Internal: asks for a list that holds what is said, and one of the column's rows. The list holds the chunk from that row on.
+fn hold_chunk(column: Column, bytes: &[u8], row: u32, held: Held, values: &mut [u64; 512]) -> Held
+    requires { ⌜ row < column .rows ⌝ }
+    requires { ⌜ Holds (now bytes) column held (now values) ⌝ }
+    ensures { λ r. ⌜ HoldsAt (now (bytes .entry)) column row r (now (values .exit)) ⌝ }
 {
-    match stretch {
-        Stretch::Whole(n) => n,
-        Stretch::Stopped(n, _) => n,
+    let pass = own::pass_at(column, bytes, held.pass, row);
+    let block = pass.block;
+    let count = own::values(column, block, bytes, row, values);
+    Held {
+        pass,
+        block: row / 512,
+        first: row,
+        count,
     }
 }
 
-// Internal: asks for a list that holds what is said. Goes on to a row: where it is of another block, the list holds the chunk from that row on.
-pub fn hold(
-    column: Column,
-    table: &[u64],
-    bytes: &[u8],
-    row: u32,
-    held: Held,
-    values: &mut [u64; 512],
-) -> Held
-    requires { ⌜ Holds (rowAt column (now table) (now bytes)) held (now values) ⌝ }
-    ensures { λ r. ⌜ Holds (rowAt column (now (table .entry)) (now (bytes .entry))) r (now (values .exit)) ⌝ }
+// Internal: asks for a list that holds what is said. Goes on to a row: where it is one of the column's and of another block, the list holds the chunk from that row on.
+pub fn hold(column: Column, bytes: &[u8], row: u32, held: Held, values: &mut [u64; 512]) -> Held
+    requires { ⌜ Holds (now bytes) column held (now values) ⌝ }
+    ensures { λ r. ⌜ HoldsAt (now (bytes .entry)) column row r (now (values .exit)) ⌝ }
 {
-    let block = reading::reader::column_row(column.window.first, WindowRow(row)).0 / 512;
-    if held.block == block {
+    if held.block == row / 512 {
         return held;
     }
-    let stretch = u64_based::chunk(column, table, bytes, row, values);
-    Held {
-        block,
-        first: row,
-        count: values_of(stretch),
+    if column.rows <= row {
+        return held;
     }
+    hold_chunk(column, bytes, row, held, values)
 }
 
-// Internal: asks for a list that holds what is said. The value of a row, out of the list where that holds it.
-pub fn answer(
-    column: Column,
-    table: &[u64],
-    bytes: &[u8],
-    row: u32,
-    held: Held,
-    values: &[u64; 512],
-) -> RowRead
-    requires { ⌜ Holds (rowAt column (now table) (now bytes)) held (now values) ⌝ }
-    ensures { λ r. ⌜ rowMeaning r ≡ rowAt column (now (table .entry)) (now (bytes .entry)) row ⌝ }
+// Internal: asks for a list that holds what is said, of the row's block. The value of a row, out of the list where that holds it.
+pub fn answer(column: Column, bytes: &[u8], row: u32, held: Held, values: &[u64; 512]) -> RowRead
+    requires { ⌜ HoldsAt (now bytes) column row held (now values) ⌝ }
+    ensures { λ r. ⌜ rowMeaning r ≡ ownRow column (now (bytes .entry)) row ⌝ }
 {
     if held.first <= row {
         let place = (row - held.first) as usize;
@@ -80,5 +73,9 @@ pub fn answer(
             return RowRead::Value(values[place]);
         }
     }
-    u64_based::row(column, table, bytes, WindowRow(row))
+    if column.rows <= row {
+        return RowRead::Refused(Refusal::NoSuchRow);
+    }
+    let block = held.pass.block;
+    own::row(column, block, bytes, row)
 }

@@ -3,6 +3,7 @@
 pub mod held;
 pub mod lines;
 pub mod opening;
+pub mod own;
 pub mod put;
 
 // What a chunk took: how many rows, and how many bytes their text is.

@@ -2,6 +2,7 @@
 -- Assumes nothing.
 use Rattle.io.specs.Counts.{Counts}
 use borrow.Author.Needs.{needs}
+use Rattle.comparison.proofs.Beginnings.{begun-owned}
 use Rattle.compare.proofs.write_comparison.Statement.{statement}
 use Rattle.compare.proofs.write_comparison.Tie as tie
 
@@ -12,7 +13,7 @@ enum-known-n : tie.Need-enum-known-n
 enum-known-n c = search needs
 
 -- a refusal's line is there
-only-line : (c : tie.After-n) → Counts (c .n .given .0 .0) (c .before .before .begin .last .1 .1 .1 .1 .0)
+only-line : (c : tie.After-n) → Counts (c .n .given .0 .0) (c .before .before .begin .last .1 .1 .0)
 only-line c = rw (c .n .given .1) at (c .before .before .begin .ensures .counts)
 
 array-share-prefix-line : tie.Need-array-share-prefix-line
@@ -24,8 +25,8 @@ slice-aggregate-write-all c = only-line (c .before .before) .1
 write-all-requires : tie.Need-write-all-requires
 write-all-requires c κs = search needs
 
-enum-known-column : tie.Need-enum-known-column
-enum-known-column c = search needs
+enum-known-own : tie.Need-enum-known-own
+enum-known-own c = search needs
 
 large-buffer-requires : tie.Need-large-buffer-requires
 large-buffer-requires c κs = search needs
@@ -34,7 +35,10 @@ slice-aggregate-write-rows : tie.Need-slice-aggregate-write-rows
 slice-aggregate-write-rows c = search needs
 
 write-rows-requires : tie.Need-write-rows-requires
-write-rows-requires c κs = search needs
+write-rows-requires c κs =
+    let o = c .before .before .before in
+    let both = begun-owned (rw (o .own .given .1) at (o .before .before .begin .ensures)) in
+    (both .0, (both .1, search needs))
 
 returns : tie.Need-returns
 returns c = search needs
@@ -66,7 +70,7 @@ write-comparison-spec =
     array-share-prefix-line
     slice-aggregate-write-all
     write-all-requires
-    enum-known-column
+    enum-known-own
     large-buffer-requires
     slice-aggregate-write-rows
     write-rows-requires

@@ -1,7 +1,10 @@
 -- `show` is safe: the line's length that beginning answers lies inside the line.
 -- Assumes nothing.
 use Rattle.io.specs.Counts.{Counts}
+use denote.Ref.{now}
 use borrow.Author.Needs.{needs}
+use Rattle.comparison.proofs.Beginnings.{begun-owned}
+use Rattle.text.specs.Own.{Owned}
 use Rattle.compare_cases.proofs.show.Statement.{statement}
 use Rattle.compare_cases.proofs.show.Tie as tie
 
@@ -15,7 +18,7 @@ enum-known-n : tie.Need-enum-known-n
 enum-known-n c = search needs
 
 -- a refusal's line is there
-only-line : (c : tie.After-n) → Counts (c .n .given .0 .0) (c .before .before .begin .last .1 .1 .1 .1 .0)
+only-line : (c : tie.After-n) → Counts (c .n .given .0 .0) (c .before .before .begin .last .1 .1 .0)
 only-line c = rw (c .n .given .1) at (c .before .before .begin .ensures .counts)
 
 array-share-prefix-line : tie.Need-array-share-prefix-line
@@ -30,11 +33,19 @@ write-all-requires-2 c κs = search needs
 enum-known-a : tie.Need-enum-known-a
 enum-known-a c = search needs
 
+-- both are columns of their bytes
+owned : (c : tie.After-a) →
+    let s = c .before .before .before .before .before .before .before .before in
+    let a = c .a .given .0 .0 in
+    let b = c .a .given .0 .1 .0 in
+    Owned (now (s .args .left)) (a .column) (a .pass) × Owned (now (s .args .right)) (b .column) (b .pass)
+owned c = begun-owned (rw (c .a .given .1) at (c .before .before .begin .ensures))
+
 show-rows-requires : tie.Need-show-rows-requires
-show-rows-requires c κs = search needs
+show-rows-requires c κs = owned (c .before)
 
 show-rows-requires-2 : tie.Need-show-rows-requires-2
-show-rows-requires-2 c κs = search needs
+show-rows-requires-2 c κs = owned (c .before .before)
 
 wrapping-add-u32-requires : tie.Need-wrapping-add-u32-requires
 wrapping-add-u32-requires c κs = search needs

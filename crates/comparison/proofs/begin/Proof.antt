@@ -1,9 +1,6 @@
--- `begin` meets its contract: the line of the first side that does not open, or both columns with their tables.
+-- `begin` meets its contract: the line of the first side that does not open, or both columns.
 -- Assumes nothing.
-use mathlib.Core.Path.{sym}
 use borrow.Author.Needs.{needs}
-use Rattle.format.specs.Refusals.{openedMeaning}
-use Rattle.format.proofs.Outcomes.{told}
 use Rattle.comparison.proofs.Beginnings.{begun-left, begun-right, begun-both}
 use Rattle.comparison.proofs.begin.Statement.{statement}
 use Rattle.comparison.proofs.begin.Tie as tie
@@ -64,23 +61,19 @@ returns-2 c =
     let was = other .before .before in
     begun-right (was .before .before .open-plain .ensures) (other .open-plain2 .ensures) (was .opened .given .1) (told .enum-told2 .given .1) (number .refusal-number2 .ensures) (c .named-line2 .ensures .0) (c .named-line2 .ensures .1)
 
-fill-requires : tie.Need-fill-requires
-fill-requires c κs =
-    let was = c .before .before .before .before .before .before in
-    sym (told openedMeaning (was .before .before .open-plain .ensures) (was .opened .given .1))
+begin-requires : tie.Need-begin-requires
+begin-requires c κs = search needs
 
-fill-requires-2 : tie.Need-fill-requires-2
-fill-requires-2 c κs =
-    let is = c .before .before .before .before in
-    sym (told openedMeaning (is .before .before .open-plain2 .ensures) (is .other .given .1))
+begin-requires-2 : tie.Need-begin-requires-2
+begin-requires-2 c κs = search needs
 
 returns-3 : tie.Need-returns-3
 returns-3 c =
-    let left = c .before .before in
-    let is = left .before .before .before in
+    let left = c .before in
+    let is = left .before .before in
     let other = is .before .before in
     let was = other .before .before in
-    begun-both (was .before .before .open-plain .ensures) (other .open-plain2 .ensures) (was .opened .given .1) (is .other .given .1) (left .fill .ensures) (c .fill2 .ensures)
+    begun-both (was .before .before .open-plain .ensures) (other .open-plain2 .ensures) (was .opened .given .1) (is .other .given .1) (left .begin .ensures) (c .begin2 .ensures)
 
 pub begin-spec : {M : Type 1} → statement M
 begin-spec =
@@ -102,6 +95,6 @@ begin-spec =
     slice-aggregate-named-line-2
     named-line-requires-2
     returns-2
-    fill-requires
-    fill-requires-2
+    begin-requires
+    begin-requires-2
     returns-3)

@@ -6,8 +6,8 @@ use mathlib.Core.Logic.{⊎-elim}
 use native.Mathlib.Omega.{arith}
 use lib.ListN.{length}
 use denote.Ref.{now}
-use Rattle.format.specs.Reading.{rowAt}
 use Rattle.text.specs.Holding.{Holds}
+use Rattle.text.specs.Own.{ownRow}
 use Rattle.text.proofs.Chunks.{chunk-none, chunk-full}
 use Rattle.text.proofs.Holding.{holds-nothing}
 use Rattle.text.proofs.Texts.{counts}
@@ -17,13 +17,13 @@ use Rattle.comparison.proofs.fill_lines.Statement.{statement}
 use Rattle.comparison.proofs.fill_lines.Tie as tie
 
 abbrev Inv-loop : tie.InvT-loop
-Inv-loop left ltable lbytes right rtable rbytes from out₀ rows lvalues₀ rvalues₀ lheld₀ rheld₀ r₀ done₀ out lvalues rvalues lheld rheld r done =
-    Pairing (rowAt left ltable lbytes) (rowAt right rtable rbytes) (max (left .window .rows) (right .window .rows)) from out₀ out r (done .lines) (done .bytes) × (rows ≡ max (left .window .rows) (right .window .rows))
-    × Holds (rowAt left ltable lbytes) lheld lvalues
-    × Holds (rowAt right rtable rbytes) rheld rvalues
+Inv-loop lbytes rbytes from out₀ column against rows lvalues₀ rvalues₀ lheld₀ rheld₀ r₀ done₀ out lvalues rvalues lheld rheld r done =
+    Pairing (ownRow column lbytes) (ownRow against rbytes) (max (column .window .rows) (against .window .rows)) from out₀ out r (done .lines) (done .bytes) × (rows ≡ max (column .window .rows) (against .window .rows))
+    × Holds lbytes column lheld lvalues
+    × Holds rbytes against rheld rvalues
 
 abbrev μ-loop : tie.MeasureT-loop
-μ-loop left ltable lbytes right rtable rbytes from out₀ rows lvalues₀ rvalues₀ lheld₀ rheld₀ r₀ done₀ out lvalues rvalues lheld rheld r done = rows - r
+μ-loop lbytes rbytes from out₀ column against rows lvalues₀ rvalues₀ lheld₀ rheld₀ r₀ done₀ out lvalues rvalues lheld rheld r done = rows - r
 
 row-count-requires : tie.Need-row-count-requires Inv-loop μ-loop
 row-count-requires c κs = tt
@@ -36,7 +36,10 @@ nothing-requires-2 c κs = tt
 
 loop-holds : tie.Need-loop-holds Inv-loop μ-loop
 loop-holds c =
-    (pairing-starts _ _ _ _ _, c .before .before .row-count .ensures, holds-nothing _ _ _ refl (c .before .nothing .ensures), holds-nothing _ _ _ refl (c .nothing2 .ensures))
+    let left = c .before .nothing .ensures in
+    let right = c .nothing2 .ensures in
+    let s = c .before .before .before .before .before .before .before .before in
+    (pairing-starts _ _ _ _ _, c .before .before .row-count .ensures, holds-nothing _ (s .pre .0) (left .0) (left .1) (left .2) refl, holds-nothing _ (s .pre .1) (right .0) (right .1) (right .2) refl)
 
 sub-if1 : tie.Need-sub-if1 Inv-loop μ-loop
 sub-if1 c = omega arith
@@ -80,8 +83,8 @@ loop-again c =
       pairing-more (at .0) (omega (arith, turn .loop-test .taken, at .1)) (omega (arith, free .if1 .left)) (said .before .before .answer .ensures) (said .answer2 .ensures)
           (wrote .0) (wrote .1 .0) (wrote .1 .1),
       at .1,
-      kept .before .before .hold .ensures,
-      kept .hold2 .ensures,
+      kept .before .before .hold .ensures .holds,
+      kept .hold2 .ensures .holds,
     )
 
 sub-t27 : tie.Need-sub-t27 Inv-loop μ-loop
@@ -93,7 +96,7 @@ same-length c = c .before .loop .inv .0 .text .kept
 -- the loop is left where no row is left, or no room
 none-left : (c : tie.Left-loop Inv-loop μ-loop) →
     let a = c .before .before .before .before .before .before .before .before .before .before .args in
-    pairRows (rowAt (a .left) (now (a .ltable)) (now (a .lbytes))) (rowAt (a .right) (now (a .rtable)) (now (a .rbytes))) (max (a .left .window .rows) (a .right .window .rows))
+    pairRows (ownRow (a .left .column) (now (a .lbytes))) (ownRow (a .right .column) (now (a .rbytes))) (max (a .left .column .window .rows) (a .right .column .window .rows))
     (length (a .out .now) - c .before .loop .done .bytes) (c .before .loop .r) ≡ 0
 none-left c = ⊎-elim (λ w. chunk-none _ _ _ _ _ (omega (arith, w .left))) (λ w. chunk-full _ _ _ _ _ (omega (arith, w .2 .taken))) (c .loop-test .came)
 

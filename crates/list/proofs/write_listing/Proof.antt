@@ -2,6 +2,7 @@
 -- Assumes nothing.
 use Rattle.io.specs.Counts.{Counts}
 use borrow.Author.Needs.{needs}
+use Rattle.listing.proofs.Beginnings.{begun-owned}
 use Rattle.list.proofs.write_listing.Statement.{statement}
 use Rattle.list.proofs.write_listing.Tie as tie
 
@@ -12,7 +13,7 @@ enum-known-n : tie.Need-enum-known-n
 enum-known-n c = search needs
 
 -- a refusal's line is there
-only-line : (c : tie.After-n) → Counts (c .n .given .0 .1 .0) (c .before .before .begin .last .1 .1 .0)
+only-line : (c : tie.After-n) → Counts (c .n .given .0 .1 .0) (c .before .before .begin .last .1 .0)
 only-line c = rw (c .n .given .1) at (c .before .before .begin .ensures .counts)
 
 array-share-prefix-line : tie.Need-array-share-prefix-line
@@ -24,12 +25,12 @@ slice-aggregate-write-all c = only-line (c .before .before) .1
 write-all-requires : tie.Need-write-all-requires
 write-all-requires c κs = search needs
 
-enum-known-column : tie.Need-enum-known-column
-enum-known-column c = search needs
+enum-known-own : tie.Need-enum-known-own
+enum-known-own c = search needs
 
 -- a column's first line is there
-first-line : (c : tie.After-column) → Counts (c .column .given .0 .1 .0) (c .before .before .begin .last .1 .1 .0)
-first-line c = rw (c .column .given .1) at (c .before .before .begin .ensures .counts)
+first-line : (c : tie.After-own) → Counts (c .own .given .0 .1 .0) (c .before .before .begin .last .1 .0)
+first-line c = rw (c .own .given .1) at (c .before .before .begin .ensures .counts)
 
 large-buffer-requires : tie.Need-large-buffer-requires
 large-buffer-requires c κs = search needs
@@ -50,7 +51,9 @@ slice-aggregate-write-rows : tie.Need-slice-aggregate-write-rows
 slice-aggregate-write-rows c = search needs
 
 write-rows-requires : tie.Need-write-rows-requires
-write-rows-requires c κs = search needs
+write-rows-requires c κs =
+    let o = c .before .before .before .before .before .before in
+    (begun-owned (rw (o .own .given .1) at (o .before .before .begin .ensures)), search needs)
 
 returns-2 : tie.Need-returns-2
 returns-2 c = search needs
@@ -82,7 +85,7 @@ write-listing-spec =
     array-share-prefix-line
     slice-aggregate-write-all
     write-all-requires
-    enum-known-column
+    enum-known-own
     large-buffer-requires
     array-share-prefix-line-2
     slice-aggregate-write-all-2

@@ -1,30 +1,53 @@
 -- `write_rows` is safe and ends: each turn takes a row at least, and none but those that are left.
 -- Assumes nothing.
 use Prim.Native.Nat.{_-_, _≤_}
-use mathlib.Core.Path.{_≡_, ap}
+use mathlib.Core.Path.{_≡_, refl, sym, ap, _∙_, subst}
 use native.Mathlib.Omega.{arith}
 use lib.ListN.{length}
+use denote.Ref.{now}
+use Rattle.format.specs.declared.Column.{Column}
 use Rattle.listing.specs.Chunk.{lineMax}
+use Rattle.text.specs.declared.own.Own.{Own}
 use Rattle.text.specs.declared.Filled.{Filled}
+use Rattle.text.specs.Own.{Owned}
 use Rattle.text.proofs.Chunks.{Took, took}
+use Rattle.text.proofs.Owns.{owned-at}
 use Rattle.list.proofs.write_rows.Statement.{statement}
 use Rattle.list.proofs.write_rows.Tie as tie
 
 abbrev Inv-loop : tie.InvT-loop
-Inv-loop column table bytes out₀ from₀ out from = (from ≤ column .rows) × (lineMax ≤ length out) × (length out ≡ length out₀)
+Inv-loop bytes out₀ column at₀ from₀ out at from = Owned bytes (at .column) (at .pass) × (at .column ≡ column) × (from ≤ column .rows) × (lineMax ≤ length out) × (length out ≡ length out₀)
 
 abbrev μ-loop : tie.MeasureT-loop
-μ-loop column table bytes out₀ from₀ out from = column .rows - from
+μ-loop bytes out₀ column at₀ from₀ out at from = column .rows - from
+
+-- the column at the block of the next row
+reached : (c : tie.After-reach Inv-loop μ-loop) →
+    let s = c .before .before .before .before .before .before .before in
+    Owned (now (s .args .bytes)) (c .reach .result .column) (c .reach .result .pass) × (c .reach .result .column ≡ s .args .own .column)
+reached c =
+    let l = c .before .before .before .loop in
+    let s = c .before .before .before .before .before .before .before in
+    (subst (λ (x : Own). Owned (now (s .args .bytes)) (x .column) (x .pass)) (sym (c .reach .ensures)) (owned-at (l .inv .0 .opens) _), ap (λ (x : Own). x .column) (c .reach .ensures) ∙ l .inv .1)
 
 -- after the call: what its answer gives
-took-here : (c : tie.After-fill-lines Inv-loop μ-loop) → Took (c .before .before .before .before .before .before .before .before .args .column .rows) (c .before .before .before .before .before .loop .from) (c .fill-lines .result .rows)
-took-here c = took _ _ _ _ _ _ (ap (λ (f : Filled). f .rows) (c .fill-lines .ensures .0)) (omega arith) (omega arith)
+took-here : (c : tie.After-fill-lines Inv-loop μ-loop) →
+    let l = c .before .before .before .before .before in
+    Took (l .before .before .before .before .args .own .column .rows) (l .loop .from) (c .fill-lines .result .rows)
+took-here c =
+    let l = c .before .before .before .before .before in
+    let same = reached (c .before .before) .1 in
+    subst (λ (d : Column). Took (d .rows) (l .loop .from) (c .fill-lines .result .rows)) same
+    (took _ _ _ _ _ _ (ap (λ (f : Filled). f .rows) (c .fill-lines .ensures .0)) (omega (arith, ap (λ (d : Column). d .rows) same)) (omega (arith, l .loop .inv)))
 
 loop-holds : tie.Need-loop-holds Inv-loop μ-loop
-loop-holds c = omega arith
+loop-holds c = (c .before .before .before .pre .0, refl, omega arith, omega arith, refl)
+
+reach-requires : tie.Need-reach-requires Inv-loop μ-loop
+reach-requires c κs = c .before .before .loop .inv .0
 
 fill-lines-requires : tie.Need-fill-lines-requires Inv-loop μ-loop
-fill-lines-requires c κs = tt
+fill-lines-requires c κs = reached (c .before) .0
 
 slice-reshare-prefix-write-all : tie.Need-slice-reshare-prefix-write-all Inv-loop μ-loop
 slice-reshare-prefix-write-all c = c .before .before .fill-lines .ensures .1 .1 .0
@@ -50,7 +73,9 @@ loop-less c = omega (arith, took-here (c .before .before .before .before .before
 loop-again : tie.Need-loop-again Inv-loop μ-loop
 loop-again c =
     let called = c .before .before .before .before .before .before in
-    omega (arith, took-here called, called .fill-lines .kept .1 .1 .1 .1 .0)
+    let here = reached (called .before .before) in
+    let kept = called .fill-lines .kept .1 .1 .1 .0 in
+    (here .0, here .1, omega (arith, took-here called), omega arith, omega arith)
 
 same-length-2 : tie.Need-same-length-2 Inv-loop μ-loop
 same-length-2 c = omega arith
@@ -65,6 +90,7 @@ write-rows-spec =
     Inv-loop
     μ-loop
     loop-holds
+    reach-requires
     fill-lines-requires
     slice-reshare-prefix-write-all
     slice-aggregate-write-all

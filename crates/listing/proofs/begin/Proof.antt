@@ -10,8 +10,8 @@ use Rattle.listing.proofs.Beginnings.{begun-refused, begun-column}
 use Rattle.listing.proofs.begin.Statement.{statement}
 use Rattle.listing.proofs.begin.Tie as tie
 
-open-requires : tie.Need-open-requires
-open-requires c κs = search needs
+open-plain-requires : tie.Need-open-plain-requires
+open-plain-requires c κs = search needs
 
 enum-known-opened : tie.Need-enum-known-opened
 enum-known-opened c = search needs
@@ -28,17 +28,20 @@ refused-line-requires c κs = search needs
 returns : tie.Need-returns
 returns c =
     let told = c .before .before .before in
-    begun-refused (told .before .before .«open» .ensures) (c .refused-line .ensures .1) (told .enum-told .given .1) (c .before .before .refusal-number .ensures) (c .refused-line .ensures .0)
+    begun-refused (told .before .before .open-plain .ensures) (c .refused-line .ensures .1) (told .enum-told .given .1) (c .before .before .refusal-number .ensures) (c .refused-line .ensures .0)
 
 -- the maximum has 64 bits
 bounds : (c : tie.After-opened) → let x = c .opened .given .0 .0 in x .minimum + x .gcd * x .count < 2 ^ 64
-bounds c = here-bounds _ _ _ (told openedMeaning (c .before .before .«open» .ensures .answer) (c .opened .given .1))
+bounds c = here-bounds _ _ _ (told openedMeaning (c .before .before .open-plain .ensures) (c .opened .given .1))
 
 mul-max : tie.Need-mul-max
-mul-max c = omega (arith, bounds (c .before .before))
+mul-max c = omega (arith, bounds (c .before .before .before))
 
 add-max : tie.Need-add-max
-add-max c = omega (arith, bounds (c .before .before .before))
+add-max c = omega (arith, bounds (c .before .before .before .before))
+
+begin-requires : tie.Need-begin-requires
+begin-requires c κs = search needs
 
 code-of-requires : tie.Need-code-of-requires
 code-of-requires c κs = search needs
@@ -48,19 +51,21 @@ head-line-requires c κs = search needs
 
 returns-2 : tie.Need-returns-2
 returns-2 c =
-    let o = c .before .before .before .before .before .before in
-    begun-column (o .before .before .«open» .ensures) (c .head-line .ensures .1) (o .opened .given .1) (c .before .before .code-of .ensures) (c .head-line .ensures .0)
+    let own = c .before .before .before .before .before in
+    let o = own .before .before in
+    begun-column (o .before .before .open-plain .ensures) (c .head-line .ensures .1) (o .opened .given .1) (own .begin .ensures) (c .before .before .code-of .ensures) (c .head-line .ensures .0)
 
 pub begin-spec : {M : Type 1} → statement M
 begin-spec =
     tie.close
     (tie.spec
-    open-requires
+    open-plain-requires
     enum-known-opened
     enum-told
     refusal-number-requires
     refused-line-requires
     returns
+    begin-requires
     mul-max
     add-max
     code-of-requires

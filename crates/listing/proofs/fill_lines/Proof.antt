@@ -1,15 +1,15 @@
 -- `fill_lines` meets its contract. The invariant is `Filling`, with what the values at hand hold; the measure is the number of rows left.
 -- Assumes nothing.
-use Prim.Native.Nat.{_-_}
+use Prim.Native.Nat.{_+_, _-_, _^_, _<_}
 use mathlib.Core.Path.{_≡_, refl}
 use mathlib.Core.Logic.{⊎-elim}
 use native.Mathlib.Omega.{arith}
 use lib.ListN.{length}
 use denote.Ref.{now}
 use Rattle.format.specs.Listing.{rowLine}
-use Rattle.format.specs.Reading.{rowAt}
 use Rattle.text.specs.Chunk.{chunkRows}
 use Rattle.text.specs.Holding.{Holds}
+use Rattle.text.specs.Own.{ownRow}
 use Rattle.text.proofs.Chunks.{chunk-none, chunk-full}
 use Rattle.text.proofs.Filling.{Filling, filling-starts, filling-more, filling-answer, filling-list}
 use Rattle.text.proofs.Holding.{holds-nothing}
@@ -20,17 +20,19 @@ use Rattle.listing.proofs.fill_lines.Statement.{statement}
 use Rattle.listing.proofs.fill_lines.Tie as tie
 
 abbrev Inv-loop : tie.InvT-loop
-Inv-loop column table bytes from out₀ values₀ held₀ r₀ at₀ out values held r at =
-    Filling (rowLine (rowAt column table bytes)) lineMax (column .rows) from out₀ out r at × Holds (rowAt column table bytes) held values
+Inv-loop bytes from out₀ column values₀ held₀ r₀ at₀ out values held r at =
+    Filling (rowLine (ownRow column bytes)) lineMax (column .rows) from out₀ out r at × Holds bytes column held values
 
 abbrev μ-loop : tie.MeasureT-loop
-μ-loop column table bytes from out₀ values₀ held₀ r₀ at₀ out values held r at = column .rows - r
+μ-loop bytes from out₀ column values₀ held₀ r₀ at₀ out values held r at = column .rows - r
 
 nothing-requires : tie.Need-nothing-requires Inv-loop μ-loop
 nothing-requires c κs = tt
 
 loop-holds : tie.Need-loop-holds Inv-loop μ-loop
-loop-holds c = (filling-starts _ _ _ _ _, holds-nothing _ _ _ refl (c .nothing .ensures))
+loop-holds c =
+    let none = c .nothing .ensures in
+    (filling-starts _ _ _ _ _, holds-nothing _ (c .before .before .before .before .pre) (none .0) (none .1) (none .2) refl)
 
 sub-if2 : tie.Need-sub-if2 Inv-loop μ-loop
 sub-if2 c = omega arith
@@ -44,8 +46,12 @@ answer-requires c κs = c .before .hold .ensures
 put-row-requires : tie.Need-put-row-requires Inv-loop μ-loop
 put-row-requires c κs = omega arith
 
+-- a row that is listed has one behind it
+few : (c : tie.Then1 Inv-loop μ-loop) → c .before .before .loop .r + 1 < 2 ^ 32
+few c = omega arith
+
 add-r : tie.Need-add-r Inv-loop μ-loop
-add-r c = omega arith
+add-r c = omega (arith, few (c .before .before .before .before .before .before .before .before .before))
 
 loop-less : tie.Need-loop-less Inv-loop μ-loop
 loop-less c = omega arith
@@ -56,7 +62,7 @@ loop-again c =
     let said = put .before .before in
     let kept = said .before .before in
     let wrote = put .put-row .ensures in
-    (filling-more (kept .before .before .before .before .before .loop .inv .0) (omega arith) (omega arith) (line-wrote _ _ (said .answer .ensures) (wrote .0)) (wrote .1), kept .hold .ensures)
+    (filling-more (kept .before .before .before .before .before .loop .inv .0) (omega arith) (omega arith) (line-wrote _ _ (said .answer .ensures) (wrote .0)) (wrote .1), kept .hold .ensures .holds)
 
 sub-t18 : tie.Need-sub-t18 Inv-loop μ-loop
 sub-t18 c = omega arith
@@ -67,7 +73,7 @@ same-length c = c .before .before .loop .inv .0 .kept
 -- the loop is left where no row is left, or no room
 none-left : (c : tie.Joined1 Inv-loop μ-loop) →
     let a = c .before .before .before .before .before .before .before .args in
-    chunkRows (rowLine (rowAt (a .column) (now (a .table)) (now (a .bytes)))) lineMax (a .column .rows) (length (a .out .now) - c .before .before .loop .at) (c .before .before .loop .r) ≡ 0
+    chunkRows (rowLine (ownRow (a .own .column) (now (a .bytes)))) lineMax (a .own .column .rows) (length (a .out .now) - c .before .before .loop .at) (c .before .before .loop .r) ≡ 0
 none-left c = ⊎-elim (λ w. chunk-none _ _ _ _ _ (w .left)) (λ w. chunk-full _ _ _ _ _ (omega (arith, w .1 .taken))) (c .if1 .came)
 
 returns : tie.Need-returns Inv-loop μ-loop

@@ -1,7 +1,10 @@
 -- `show` is safe: the line's length that beginning answers lies inside the line.
 -- Assumes nothing.
 use Rattle.io.specs.Counts.{Counts}
+use denote.Ref.{now}
 use borrow.Author.Needs.{needs}
+use Rattle.listing.proofs.Beginnings.{begun-owned}
+use Rattle.text.specs.Own.{Owned}
 use Rattle.listing_cases.proofs.show.Statement.{statement}
 use Rattle.listing_cases.proofs.show.Tie as tie
 
@@ -15,7 +18,7 @@ enum-known-n : tie.Need-enum-known-n
 enum-known-n c = search needs
 
 -- a refusal's line is there
-only-line : (c : tie.After-n) → Counts (c .n .given .0 .1 .0) (c .before .before .begin .last .1 .1 .0)
+only-line : (c : tie.After-n) → Counts (c .n .given .0 .1 .0) (c .before .before .begin .last .1 .0)
 only-line c = rw (c .n .given .1) at (c .before .before .begin .ensures .counts)
 
 array-share-prefix-line : tie.Need-array-share-prefix-line
@@ -27,12 +30,12 @@ slice-aggregate-write-all c = only-line (c .before .before) .1
 write-all-requires-2 : tie.Need-write-all-requires-2
 write-all-requires-2 c κs = search needs
 
-enum-known-column : tie.Need-enum-known-column
-enum-known-column c = search needs
+enum-known-own : tie.Need-enum-known-own
+enum-known-own c = search needs
 
 -- a column's first line is there
-first-line : (c : tie.After-column) → Counts (c .column .given .0 .1 .0) (c .before .before .begin .last .1 .1 .0)
-first-line c = rw (c .column .given .1) at (c .before .before .begin .ensures .counts)
+first-line : (c : tie.After-own) → Counts (c .own .given .0 .1 .0) (c .before .before .begin .last .1 .0)
+first-line c = rw (c .own .given .1) at (c .before .before .begin .ensures .counts)
 
 array-share-prefix-line-2 : tie.Need-array-share-prefix-line-2
 array-share-prefix-line-2 c = first-line (c .before) .0
@@ -43,11 +46,15 @@ slice-aggregate-write-all-2 c = first-line (c .before .before) .1
 write-all-requires-3 : tie.Need-write-all-requires-3
 write-all-requires-3 c κs = search needs
 
+-- and it is a column of the bytes
+owned : (c : tie.After-own) → Owned (now (c .before .before .before .before .before .before .before .args .bytes)) (c .own .given .0 .0 .column) (c .own .given .0 .0 .pass)
+owned c = begun-owned (rw (c .own .given .1) at (c .before .before .begin .ensures))
+
 show-rows-requires : tie.Need-show-rows-requires
-show-rows-requires c κs = search needs
+show-rows-requires c κs = owned (c .before .before .before)
 
 show-rows-requires-2 : tie.Need-show-rows-requires-2
-show-rows-requires-2 c κs = search needs
+show-rows-requires-2 c κs = owned (c .before .before .before .before)
 
 end-line-requires : tie.Need-end-line-requires
 end-line-requires c κs = search needs
@@ -77,7 +84,7 @@ show-spec =
     array-share-prefix-line
     slice-aggregate-write-all
     write-all-requires-2
-    enum-known-column
+    enum-known-own
     array-share-prefix-line-2
     slice-aggregate-write-all-2
     write-all-requires-3

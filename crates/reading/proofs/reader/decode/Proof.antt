@@ -1,14 +1,13 @@
 -- `reading::reader::decode` meets its contract: what fits at the last row fits at all; otherwise the rows go one by one.
 -- Assumes nothing.
 use Prim.Native.Nat.{ℕ, _+_, _-_, _^_, _≤_, _<_}
-use mathlib.Core.Path.{_≡_, refl, sym, ap, _∙_, subst}
+use mathlib.Core.Path.{_≡_, sym, ap, _∙_, subst}
 use mathlib.Core.Bool.{true}
-use mathlib.Core.List.{List, [], _∷_}
+use mathlib.Core.List.{List}
 use native.Mathlib.Omega.{arith}
 use denote.Ref.{now}
 use lib.ListN.{length}
 use borrow.Author.Tests.{lt-ltb, le-ltb, not-false}
-use Rattle.format.specs.Outcome.{Outcome, Outcome.value, Outcome.refusal}
 use Rattle.format.specs.Reading.{columnRow, fits, valueAt, rowIn}
 use Rattle.format.specs.Runs.{readRun, filledTo}
 use Rattle.reading.specs.Chunks.{FilledAs}

@@ -1,16 +1,15 @@
 -- `reading::reader::row_in` meets its contract: its tests are the definition's, at the column's row.
 -- Assumes nothing.
 use Prim.Native.Nat.{ℕ, _^_, _<_}
-use mathlib.Core.Path.{_≡_, sym, ap, _∙_}
+use mathlib.Core.Path.{_≡_, sym, ap, _∙_, subst}
+use native.Mathlib.Omega.{arith}
 use mathlib.Core.Bool.{true}
 use denote.Ref.{now}
 use borrow.Author.Tests.{lt-ltb, le-ltb, not-true, not-false}
-use Rattle.format.specs.Outcome.{Outcome}
-use Rattle.format.specs.Refusals.{rowMeaning}
-use Rattle.format.specs.Reading.{columnRow, fits, valueAt, askedAs, rowIn}
-use Rattle.format.proofs.Outcomes.{told}
+use Rattle.format.specs.Reading.{columnRow, placeOf, fits, rowIn}
+use Rattle.reading.specs.Chunks.{Fitting}
 use Rattle.reading.proofs.Fitting.{fitting, fitting-window}
-use Rattle.reading.proofs.Moving.{not-moved, moved-fits, out-of-bounds}
+use Rattle.reading.proofs.Moving.{not-moved, moved-fits}
 use borrow.Author.Needs.{needs}
 use Rattle.reading.proofs.reader.row_in.Statement.{statement}
 use Rattle.reading.proofs.reader.row_in.Tie as tie
@@ -32,18 +31,12 @@ tested c =
 fit-there : (c : tie.Else2) → (let s = entry (c .before .before .before) in fits (s .args .column) (s .args .blocks) (s .args .block) (now (s .args .bytes)) (c .before .before .column-row .result .0) ≡ true)
 fit-there c = sym (c .before .fits2 .ensures) ∙ not-false _ (c .if2 .left)
 
--- so the answer is the value, named as it was asked for
-reads-as : (c : tie.Else2) {o : Outcome ℕ}
-    → (let s = entry (c .before .before .before) in o ≡ askedAs (s .args .row .0) (valueAt (s .args .column) (s .args .block) (now (s .args .bytes)) (c .before .before .column-row .result .0))
-    → o ≡ rowIn (s .args .column) (s .args .blocks) (s .args .block) (now (s .args .bytes)) (s .args .row .0))
-unfolding rowIn
-reads-as c e =
+-- the row is not counted anew
+same : (c : tie.Else2) → let s = entry (c .before .before .before) in c .before .before .column-row .result .0 ≡ columnRow (s .args .column) (s .args .row .0)
+same c =
     let k = c .before .before .before in
     let s = entry k in
-    let same : c .before .before .column-row .result .0 ≡ columnRow (s .args .column) (s .args .row .0) =
-    c .before .before .column-row .ensures ∙ not-moved (s .args .column) (few s) (s .args .row .0) (k .if1 .left) (fitting-window _ _ _ _ _ (fit-there c)) in
-    rw (lt-ltb _ _ (k .if1 .left), sym (tested (c .before)) ∙ not-false _ (c .if2 .left))
-    (e ∙ ap (λ (q : ℕ). askedAs (s .args .row .0) (valueAt (s .args .column) (s .args .block) (now (s .args .bytes)) q)) same)
+    c .before .before .column-row .ensures ∙ not-moved (s .args .column) (few s) (s .args .row .0) (k .if1 .left) (fitting-window _ _ _ _ _ (fit-there c))
 
 returns : tie.Need-returns
 unfolding rowIn
@@ -59,20 +52,16 @@ returns-2 : tie.Need-returns-2
 unfolding rowIn
 returns-2 c = rw (lt-ltb _ _ (c .before .before .before .if1 .left), sym (tested (c .before)) ∙ not-true _ (c .if2 .taken))
 
-value-of-requires : tie.Need-value-of-requires
-value-of-requires c κs = fitting _ _ _ _ _ (fit-there c)
-
-enum-known-v : tie.Need-enum-known-v
-enum-known-v c = search needs
-
-enum-told : tie.Need-enum-told
-enum-told c = search needs
+row-fitting-requires : tie.Need-row-fitting-requires
+row-fitting-requires c κs =
+    let s = entry (c .before .before .before) in
+    (omega (arith, same c), subst (λ (q : ℕ). Fitting (s .args .column) (placeOf (s .args .column) (s .args .block) q) (now (s .args .bytes))) (same c) (fitting _ _ _ _ _ (fit-there c)))
 
 returns-3 : tie.Need-returns-3
-returns-3 c = let e = c .before .before .before .before in reads-as e (sym (ap (askedAs (entry (e .before .before .before) .args .row .0)) (told rowMeaning (c .before .before .before .value-of .ensures) (c .before .v .given .1))))
-
-returns-4 : tie.Need-returns-4
-returns-4 c = let e = c .before .before .before in reads-as e (out-of-bounds _ _ _ _ _ (told rowMeaning (c .before .before .value-of .ensures) (c .enum-told .given .1)))
+unfolding rowIn
+returns-3 c =
+    let e = c .before in
+    rw (lt-ltb _ _ (e .before .before .before .if1 .left), sym (tested (e .before)) ∙ not-false _ (e .if2 .left)) (c .row-fitting .ensures)
 
 pub row-in-spec : {M : Type 1} → statement M
 row-in-spec =
@@ -82,8 +71,5 @@ row-in-spec =
     column-row-requires
     fits-requires
     returns-2
-    value-of-requires
-    enum-known-v
-    enum-told
-    returns-3
-    returns-4)
+    row-fitting-requires
+    returns-3)

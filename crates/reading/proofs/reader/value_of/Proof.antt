@@ -1,6 +1,6 @@
 -- `reading::reader::value_of` meets its contract: what fits together is what the codec asks for.
 -- Assumes nothing.
-use Rattle.reading.proofs.Fitting.{bitpacked-reads, linear-reads, blocks-read}
+use Rattle.reading.proofs.Fitting.{linear-reads, blocks-read}
 use borrow.Author.Needs.{needs}
 use Rattle.reading.proofs.reader.value_of.Statement.{statement}
 use Rattle.reading.proofs.reader.value_of.Tie as tie
