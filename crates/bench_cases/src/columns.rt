@@ -1,24 +1,26 @@
 // The records OPEN, UNDER, MADE, RUN and NARROW: a column that is opened or put together, and then asked. Each function is told the record's place and its end.
-use crate::answers::Outcome;
-use crate::answers::nothing_asked;
-use crate::answers::of_opening;
-use crate::answers::refused;
-use crate::lent::NUMBER;
-use crate::lent::numbers_kept;
-use crate::lent::numbers_stored;
-use crate::reading::ask;
-use crate::words::after;
-use crate::words::bytes_at;
-use crate::words::count_at;
-use crate::words::half_at;
-use crate::words::take_words;
-use crate::words::word_at;
-use crate::words::words_for;
 use format::Codec;
 use format::Column;
 use format::Line;
 use format::Opened;
+use format::Refusal;
+use format::Spelling;
 use format::Window;
+use stored::answers::Outcome;
+use stored::answers::nothing_asked;
+use stored::answers::of_opening;
+use stored::answers::refused;
+use stored::lent::NUMBER;
+use stored::lent::numbers_kept;
+use stored::lent::numbers_stored;
+use stored::words::after;
+use stored::words::bytes_at;
+use stored::words::count_at;
+use stored::words::half_at;
+use stored::words::take_words;
+use stored::words::word_at;
+use stored::words::words_for;
+use stored_questions::ask;
 
 // The longest table that is lent.
 const TABLE: usize = 64;
@@ -152,6 +154,25 @@ fn nothing_stored(file: &[u8], at: usize) -> bool {
     numbers_stored(&none, 11, file, after(at, 4)) && numbers_stored(&none, 2, file, after(at, 16))
 }
 
+// Whether a column that opened is the record's, with its spelling and its table.
+fn opening_stored(
+    column: Column,
+    spelling: Spelling,
+    table: &[u64],
+    file: &[u8],
+    at: usize,
+) -> bool {
+    of_opening(spelling).is_stored(file, after(at, 2))
+        && seen_whole(column)
+        && column_stored(column, file, at)
+        && table_stored(table, file, at)
+}
+
+// Whether a refusal is the record's, and the table was kept.
+fn refusal_stored(why: Refusal, table: &[u64], file: &[u8], at: usize) -> bool {
+    refused(why).is_stored(file, after(at, 2)) && nothing_stored(file, at) && numbers_kept(table, 0)
+}
+
 // Opens the bytes under a sheet into a table of marks, and asks the column.
 fn opened_alike(
     sheet: u32,
@@ -164,26 +185,14 @@ fn opened_alike(
     let from = asked_place(file, at);
     match u64_based::open_under(sheet, bytes, table) {
         Opened::Column(column, spelling) => {
-            if !of_opening(spelling).is_stored(file, after(at, 2)) {
-                return nothing_asked(false);
-            }
-            if !column_stored(column, file, at) {
-                return nothing_asked(false);
-            }
-            if !seen_whole(column) {
-                return nothing_asked(false);
-            }
-            if !table_stored(table, file, at) {
+            if !opening_stored(column, spelling, table, file, at) {
                 return nothing_asked(false);
             }
             ask(column, table, bytes, file, at, from, end)
         }
-        Opened::Refused(why) => nothing_asked(
-            refused(why).is_stored(file, after(at, 2))
-                && nothing_stored(file, at)
-                && numbers_kept(table, 0)
-                && from == end,
-        ),
+        Opened::Refused(why) => {
+            nothing_asked(from == end && refusal_stored(why, table, file, at))
+        }
     }
 }
 

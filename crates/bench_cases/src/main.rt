@@ -1,19 +1,16 @@
 // Replays the case files: asks every call what they ask, compares all that it answers and all that it may change, and prints what was run and what
 // differs. tools/answers/README.md says how the files are laid out and where their answers come from.
-mod answers;
 mod columns;
-mod lent;
-mod lists;
-mod reading;
-mod typed;
-mod words;
 
 ghost use Prim.Native.Nat.{_≤_};
-use answers::Outcome;
-use answers::nothing_asked;
 use libc::STDOUT_FILENO;
-use words::word_at;
-use words::words_for;
+use stored::answers::Outcome;
+use stored::answers::nothing_asked;
+use stored::words::word_at;
+use stored::words::words_for;
+
+// How many files the arguments name.
+const FILES: usize = 13;
 
 // What was run, and how many records differ.
 struct Tally {
@@ -77,7 +74,7 @@ fn put_count(count: u64, of: &[u8]) {
 // Asks the record at a place, which ends before another. Byte 0 of its first word says what it is.
 fn record(file: &[u8], at: usize, end: usize) -> Outcome {
     match word_at(file, at) % 256 {
-        1 => lists::list(file, at, end),
+        1 => stored_lists::list(file, at, end),
         2 => columns::open(file, at, end),
         3 => columns::made(file, at, end),
         4 => columns::under(file, at, end),
@@ -124,44 +121,36 @@ fn replay(name: &[u8], file: &[u8]) -> Tally {
     tally
 }
 
-// Replays a file and prints its line. One that is not there counts as a record that differs.
-fn replay_file(name: &[u8]) -> Tally {
-    let fd = os::open_read(name);
-    if fd < 0 {
-        put(name);
-        put(b": not opened\n");
-        return Tally::new().with(nothing_asked(false));
-    }
+// Replays the file that an argument names and prints its line. One that is not there has no records.
+fn replay_file(argument: usize) -> Tally {
     let mut file = io::large_buffer();
-    let n = io::read_full(fd, &mut file);
-    libc::close(fd);
-    let tally = replay(name, &file[..n]);
-    put(name);
+    let n = files::read_named(argument, &mut file);
+    let mut name = io::buffer();
+    let long = os::arg(argument, &mut name);
+    let tally = replay(&name[..long], &file[..n]);
+    put(&name[..long]);
     put(b": ");
     put_count(tally.records, b" records, ");
     put_count(tally.differ, b" differ\n");
     tally
 }
 
-fn main() {
-    let writing = replay_file(b"bench.cases")
-        .plus(replay_file(b"shapes.cases"))
-        .plus(replay_file(b"widths.cases"));
-    let opening = replay_file(b"cut.cases")
-        .plus(replay_file(b"changed.cases"))
-        .plus(replay_file(b"fields.cases"))
-        .plus(replay_file(b"bounds.cases"))
-        .plus(replay_file(b"sheets.cases"));
-    let reading = replay_file(b"made.cases")
-        .plus(replay_file(b"lookup.cases"))
-        .plus(replay_file(b"runs.cases"))
-        .plus(replay_file(b"windows.cases"));
-    let typed = replay_file(b"typed.cases");
-    let total = writing.plus(opening).plus(reading).plus(typed);
+// Prints what was run in all.
+fn put_total(total: Tally) {
     put(b"all: ");
     put_count(total.records, b" records, ");
     put_count(total.rows, b" rows, ");
     put_count(total.lookups, b" lookups, runs and narrowings, ");
     put_count(total.back, b" rows written and read back, ");
     put_count(total.differ, b" differ\n");
+}
+
+fn main() {
+    let mut total = Tally::new();
+    let mut argument = 1;
+    while argument <= FILES {
+        total = total.plus(replay_file(argument));
+        argument += 1;
+    }
+    put_total(total);
 }

@@ -1,6 +1,9 @@
-// Compares columns of each pair of codecs, with equal and unequal answers, and of each refusal that a comparison can begin with, each below its title, through
-// the calls that `compare` makes. tools/answers/shown has the model say what it has to print.
+// Compares the columns of a file of cases, each pair below its title, through the calls that `compare` makes. tools/answers/shown.py wrote the file, and says what has to
+// be printed.
+ghost use Prim.Native.Nat.{_<_};
+ghost use lib.ListN.{length};
 ghost use Rattle.text.specs.Own.{Owned};
+use cases::length_at;
 use comparison::Begun;
 use comparison::Compared;
 use libc::STDOUT_FILENO;
@@ -36,304 +39,38 @@ fn show(title: &[u8], left: &[u8], right: &[u8]) {
     }
 }
 
-// Equal answers of each pair of codecs, whatever the bytes.
-fn show_equal_codecs() {
-    show(
-        b"Bitpacked and Linear\n",
-        b"\x00\x8A\x8A\x82\x83\x18",
-        b"\x01\x8A\x8A\x82\x83\x80\x8A\x05\x80\x2A",
-    );
-    show(
-        b"Bitpacked and Blockwise\n",
-        b"\x00\x8A\x8A\x82\x83\x18",
-        b"\x02\x8A\x8A\x82\x83\x08\x00\x00\x00\x00\x88\x80\x02\x07\x00\x00\x00",
-    );
-    show(
-        b"Linear and Blockwise\n",
-        b"\x01\x8A\x8A\x82\x83\x80\x8A\x05\x80\x2A",
-        b"\x02\x8A\x8A\x82\x83\x08\x00\x00\x00\x00\x88\x80\x02\x07\x00\x00\x00",
-    );
-    show(
-        b"Linear and Bitpacked\n",
-        b"\x01\x8A\x8A\x82\x83\x80\x8A\x05\x80\x2A",
-        b"\x00\x8A\x8A\x82\x83\x18",
-    );
-    show(
-        b"Blockwise and Linear\n",
-        b"\x02\x8A\x8A\x82\x83\x08\x00\x00\x00\x00\x88\x80\x02\x07\x00\x00\x00",
-        b"\x01\x8A\x8A\x82\x83\x80\x8A\x05\x80\x2A",
-    );
-    show(
-        b"Blockwise and Bitpacked\n",
-        b"\x02\x8A\x8A\x82\x83\x08\x00\x00\x00\x00\x88\x80\x02\x07\x00\x00\x00",
-        b"\x00\x8A\x8A\x82\x83\x18",
-    );
+// Internal: asks for an offset within the file. Shows the case that begins there: the lengths of its title and its two columns, then these. Returns the offset behind it, or
+// the file's end where it is cut off.
+fn show_case(file: &[u8], at: usize) -> usize
+    requires { ⌜ at < length (now file) ⌝ }
+    ensures { λ r. ⌜ at < r ⌝ }
+{
+    let size = file.len();
+    if size - at < 12 {
+        return size;
+    }
+    let title = at + 12;
+    let left = title + length_at(file, at);
+    let right = left + length_at(file, at + 4);
+    let end = right + length_at(file, at + 8);
+    if size < end {
+        return size;
+    }
+    show(&file[title..left], &file[left..right], &file[right..end]);
+    end
 }
 
-// Equal answers of other columns.
-fn show_equal_rows() {
-    show(
-        b"Bitpacked, the minimum spelled longer\n",
-        b"\x00\x8A\x8A\x82\x83\x18",
-        b"\x00\x0A\x80\x8A\x82\x83\x18",
-    );
-    show(
-        b"Linear with itself\n",
-        b"\x01\x8A\x8A\x82\x83\x80\x8A\x05\x80\x2A",
-        b"\x01\x8A\x8A\x82\x83\x80\x8A\x05\x80\x2A",
-    );
-    show(
-        b"Blockwise with itself\n",
-        b"\x02\x8A\x8A\x82\x83\x08\x00\x00\x00\x00\x88\x80\x02\x07\x00\x00\x00",
-        b"\x02\x8A\x8A\x82\x83\x08\x00\x00\x00\x00\x88\x80\x02\x07\x00\x00\x00",
-    );
-    show(
-        b"no rows\n",
-        b"\x00\x80\x81\x80\x80",
-        b"\x00\x80\x81\x80\x80",
-    );
-    show(
-        b"two blocks and a line\n",
-        b"\x02\x80\x8A\x00\x84\x01\x84\x00\x00\x00\x00\x90\x80\x00\x80\x00\x84\x00\x0B\x00\x00\x00",
-        b"\x01\x80\x8A\x00\x84\x01\x84\x00\x00\x00\x00\x20\x81\x80\x00",
-    );
-    show(
-        b"rows refused on both sides\n",
-        b"\x01\x8A\x8A\x82\x83\x80\x8A\x05\xE0\x2B",
-        b"\x02\x8A\x8A\x82\x83\x0C\x00\x00\x00\x00\x88\x80\x02\x07\x00\x00\x00",
-    );
-    show(
-        b"1,048,576 rows\n",
-        b"\x00\x87\x81\x80\x00\x00\xC0",
-        b"\x01\x87\x81\x80\x00\x00\xC0\x80\x87\x00",
-    );
-}
-
-// Unequal answers of each pair of codecs.
-fn show_unequal_codecs() {
-    show(
-        b"Bitpacked and Linear\n",
-        b"\x00\x8A\x8A\x82\x83\x18",
-        b"\x01\x8A\x8A\x82\x83\x80\x8A\x05\x40\x29",
-    );
-    show(
-        b"Bitpacked and Blockwise\n",
-        b"\x00\x8A\x8A\x82\x83\x18",
-        b"\x02\x8A\x8A\x82\x83\x18\x00\x00\x00\x00\x88\x80\x02\x07\x00\x00\x00",
-    );
-    show(
-        b"Linear and Blockwise\n",
-        b"\x01\x8A\x8A\x82\x83\x80\x8A\x05\x80\x2A",
-        b"\x02\x8A\x8A\x82\x83\x18\x00\x00\x00\x00\x88\x80\x02\x07\x00\x00\x00",
-    );
-    show(
-        b"Linear and Bitpacked\n",
-        b"\x01\x8A\x8A\x82\x83\x80\x8A\x05\x40\x29",
-        b"\x00\x8A\x8A\x82\x83\x18",
-    );
-    show(
-        b"Blockwise and Bitpacked\n",
-        b"\x02\x8A\x8A\x82\x83\x18\x00\x00\x00\x00\x88\x80\x02\x07\x00\x00\x00",
-        b"\x00\x8A\x8A\x82\x83\x14",
-    );
-    show(
-        b"Blockwise and Linear\n",
-        b"\x02\x8A\x8A\x82\x83\x18\x00\x00\x00\x00\x88\x80\x02\x07\x00\x00\x00",
-        b"\x01\x8A\x8A\x82\x83\x80\x8A\x05\x40\x29",
-    );
-}
-
-// Unequal answers of one codec.
-fn show_unequal_bytes() {
-    show(
-        b"Bitpacked with another byte\n",
-        b"\x00\x8A\x8A\x82\x83\x18",
-        b"\x00\x8A\x8A\x82\x83\x14",
-    );
-    show(
-        b"Linear with another byte\n",
-        b"\x01\x8A\x8A\x82\x83\x80\x8A\x05\x80\x2A",
-        b"\x01\x8A\x8A\x82\x83\x80\x8A\x05\x40\x29",
-    );
-    show(
-        b"Blockwise with another byte\n",
-        b"\x02\x8A\x8A\x82\x83\x08\x00\x00\x00\x00\x88\x80\x02\x07\x00\x00\x00",
-        b"\x02\x8A\x8A\x82\x83\x18\x00\x00\x00\x00\x88\x80\x02\x07\x00\x00\x00",
-    );
-}
-
-// Refused rows, and the longest line.
-fn show_refused_rows() {
-    show(
-        b"Blockwise, row 1 of the right one above the maximum\n",
-        b"\x02\x8A\x8A\x82\x83\x08\x00\x00\x00\x00\x88\x80\x02\x07\x00\x00\x00",
-        b"\x02\x8A\x8A\x82\x83\x0C\x00\x00\x00\x00\x88\x80\x02\x07\x00\x00\x00",
-    );
-    show(
-        b"the same, left\n",
-        b"\x02\x8A\x8A\x82\x83\x0C\x00\x00\x00\x00\x88\x80\x02\x07\x00\x00\x00",
-        b"\x02\x8A\x8A\x82\x83\x08\x00\x00\x00\x00\x88\x80\x02\x07\x00\x00\x00",
-    );
-    show(
-        b"rows refused alike, and another value\n",
-        b"\x00\x8A\x8A\x82\x83\x0C",
-        b"\x01\x8A\x8A\x82\x83\x80\x8A\x05\xE0\x2B",
-    );
-    show(
-        b"the longest line\n",
-        b"\x00\x80\x81\x7F\x7F\x7F\x7F\x7F\x7F\x7F\x7F\x7F\x81\x82\x00\x00\x00\x00\x00\x00\x00\x00\xFF\xFF\xFF\xFF\xFF\xFF\xFF\xFF",
-        b"\x00\x80\x81\x7F\x7F\x7F\x7F\x7F\x7F\x7F\x7F\x7F\x81\x82\xFF\xFF\xFF\xFF\xFF\xFF\xFF\xFF\xFE\xFF\xFF\xFF\xFF\xFF\xFF\xFF",
-    );
-}
-
-// Rows of one side only.
-fn show_one_only() {
-    show(
-        b"rows of the left side only\n",
-        b"\x00\x8A\x8A\x82\x83\x18",
-        b"\x00\x87\x81\x80\x81",
-    );
-    show(
-        b"rows of the right side only\n",
-        b"\x00\x87\x81\x80\x81",
-        b"\x00\x8A\x8A\x82\x83\x18",
-    );
-    show(
-        b"a refused row of the right side only\n",
-        b"\x00\x8A\x8A\x82\x83\x18",
-        b"\x00\x8A\x8A\x82\x84\xD8",
-    );
-    show(
-        b"a refused row of the left side only\n",
-        b"\x00\x8A\x8A\x82\x84\xD8",
-        b"\x00\x8A\x8A\x82\x83\x18",
-    );
-    show(
-        b"all rows of two blocks, left\n",
-        b"\x02\x80\x8A\x00\x84\x01\x84\x00\x00\x00\x00\x90\x80\x00\x80\x00\x84\x00\x0B\x00\x00\x00",
-        b"\x00\x80\x81\x80\x80",
-    );
-}
-
-// The left side does not open, by each number: the head.
-fn show_left_head() {
-    show(b"no bytes\n", b"", b"\x00\x8A\x8A\x82\x83\x18");
-    show(b"a fourth codec\n", b"\x03", b"\x00\x8A\x8A\x82\x83\x18");
-    show(
-        b"the gcd ends early\n",
-        b"\x00\x80\x00",
-        b"\x00\x8A\x8A\x82\x83\x18",
-    );
-    show(b"gcd 0\n", b"\x00\x80\x80", b"\x00\x8A\x8A\x82\x83\x18");
-    show(
-        b"the maximum would be 2^64\n",
-        b"\x00\x7F\x7F\x7F\x7F\x7F\x7F\x7F\x7F\x7F\x81\x81\x81",
-        b"\x00\x8A\x8A\x82\x83\x18",
-    );
-}
-
-// And what is behind it, and the limits.
-fn show_left_body() {
-    show(
-        b"a width of 57\n",
-        b"\x01\x80\x81\x80\x80\x80\x80\x39",
-        b"\x00\x8A\x8A\x82\x83\x18",
-    );
-    show(
-        b"the area is a byte short\n",
-        b"\x00\x8A\x8A\x82\x83",
-        b"\x00\x8A\x8A\x82\x83\x18",
-    );
-    show(
-        b"1,048,577 rows\n",
-        b"\x00\x87\x81\x80\x01\x00\xC0",
-        b"\x00\x8A\x8A\x82\x83\x18",
-    );
-    show(
-        b"1,048,577 rows in blocks\n",
-        b"\x02\x87\x81\x80\x01\x00\xC0\x00\x00\x00\x00",
-        b"\x00\x8A\x8A\x82\x83\x18",
-    );
-    show(
-        b"65,536 bytes\n",
-        &[0u8; 65536],
-        b"\x00\x8A\x8A\x82\x83\x18",
-    );
-    show(
-        b"65,537 bytes\n",
-        &[0u8; 65537],
-        b"\x00\x8A\x8A\x82\x83\x18",
-    );
-}
-
-// The same of the right side.
-fn show_right_head() {
-    show(b"no bytes\n", b"\x00\x8A\x8A\x82\x83\x18", b"");
-    show(b"a fourth codec\n", b"\x00\x8A\x8A\x82\x83\x18", b"\x03");
-    show(
-        b"the gcd ends early\n",
-        b"\x00\x8A\x8A\x82\x83\x18",
-        b"\x00\x80\x00",
-    );
-    show(b"gcd 0\n", b"\x00\x8A\x8A\x82\x83\x18", b"\x00\x80\x80");
-    show(
-        b"the maximum would be 2^64\n",
-        b"\x00\x8A\x8A\x82\x83\x18",
-        b"\x00\x7F\x7F\x7F\x7F\x7F\x7F\x7F\x7F\x7F\x81\x81\x81",
-    );
-}
-
-// And what is behind its head, and the limits.
-fn show_right_body() {
-    show(
-        b"a width of 57\n",
-        b"\x00\x8A\x8A\x82\x83\x18",
-        b"\x01\x80\x81\x80\x80\x80\x80\x39",
-    );
-    show(
-        b"the area is a byte short\n",
-        b"\x00\x8A\x8A\x82\x83\x18",
-        b"\x00\x8A\x8A\x82\x83",
-    );
-    show(
-        b"1,048,577 rows\n",
-        b"\x00\x8A\x8A\x82\x83\x18",
-        b"\x00\x87\x81\x80\x01\x00\xC0",
-    );
-    show(
-        b"1,048,577 rows in blocks\n",
-        b"\x00\x8A\x8A\x82\x83\x18",
-        b"\x02\x87\x81\x80\x01\x00\xC0\x00\x00\x00\x00",
-    );
-    show(
-        b"65,536 bytes\n",
-        b"\x00\x8A\x8A\x82\x83\x18",
-        &[0u8; 65536],
-    );
-    show(
-        b"65,537 bytes\n",
-        b"\x00\x8A\x8A\x82\x83\x18",
-        &[0u8; 65537],
-    );
-}
-
-// Neither side opens: the left one decides.
-fn show_both() {
-    show(b"no bytes, and gcd 0\n", b"", b"\x00\x80\x80");
-    show(b"gcd 0, and no bytes\n", b"\x00\x80\x80", b"");
-    show(b"65,537 bytes, and no bytes\n", &[0u8; 65537], b"");
+// Shows the cases of a file.
+fn show_all(file: &[u8]) {
+    let size = file.len();
+    let mut at = 0;
+    while at < size {
+        at = show_case(file, at);
+    }
 }
 
 fn main() {
-    show_equal_codecs();
-    show_equal_rows();
-    show_unequal_codecs();
-    show_unequal_bytes();
-    show_refused_rows();
-    show_one_only();
-    show_left_head();
-    show_left_body();
-    show_right_head();
-    show_right_body();
-    show_both();
+    let mut file = [0u8; 524288];
+    let n = files::read_named(1, &mut file);
+    show_all(&file[..n]);
 }

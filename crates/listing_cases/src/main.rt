@@ -1,5 +1,8 @@
-// Lists a column of each codec and of each refusal that a listing can begin with, each below its title, through the calls that `list` makes.
+// Lists the columns of a file of cases, each below its title, through the calls that `list` makes. tools/answers/shown.py wrote the file, and says what has to be printed.
+ghost use Prim.Native.Nat.{_<_};
+ghost use lib.ListN.{length};
 ghost use Rattle.text.specs.Own.{Owned};
+use cases::length_at;
 use libc::STDOUT_FILENO;
 use listing::Begun;
 use text::own::Own;
@@ -33,61 +36,37 @@ fn show(title: &[u8], bytes: &[u8]) {
     }
 }
 
-// Columns that open, of each codec.
-fn show_columns() {
-    show(b"Bitpacked: 10, 30, 20\n", b"\x00\x8A\x8A\x82\x83\x18");
-    show(b"Bitpacked: no rows\n", b"\x00\x80\x81\x80\x80");
-    show(
-        b"Bitpacked, 64 bits: 0, 18446744073709551615, 1\n",
-        b"\x00\x80\x81\x7F\x7F\x7F\x7F\x7F\x7F\x7F\x7F\x7F\x81\x83\x00\x00\x00\x00\x00\x00\x00\x00\xFF\xFF\xFF\xFF\xFF\xFF\xFF\xFF\x01\x00\x00\x00\x00\x00\x00\x00",
-    );
-    show(
-        b"Linear, rising by 3: 100, 104, 106, 109\n",
-        b"\x01\xE4\x81\x89\x84\x00\x00\x00\x00\xB0\xE4\x01\x02",
-    );
-    show(
-        b"Blockwise: 10, 30, 20\n",
-        b"\x02\x8A\x8A\x82\x83\x08\x00\x00\x00\x00\x88\x80\x02\x07\x00\x00\x00",
-    );
-    show(
-        b"the same with another byte: row 1 is above the maximum\n",
-        b"\x02\x8A\x8A\x82\x83\x0C\x00\x00\x00\x00\x88\x80\x02\x07\x00\x00\x00",
-    );
-    show(
-        b"Blockwise, falling: 3, 2, 1, 0\n",
-        b"\x02\x80\x81\x83\x84\x0E\x7F\x7F\x7F\x7F\x6F\x7F\x7F\x7F\x7F\x81\x83\x01\x0C\x00\x00\x00",
-    );
-    show(
-        b"Bitpacked: every row is above the maximum\n",
-        b"\x00\x80\x81\x82\x84\xFF",
-    );
-    show(
-        b"Blockwise, two blocks: the tens to 5120\n",
-        b"\x02\x80\x8A\x00\x84\x01\x84\x00\x00\x00\x00\x90\x80\x00\x80\x00\x84\x00\x0B\x00\x00\x00",
-    );
+// Internal: asks for an offset within the file. Shows the case that begins there: the lengths of its title and its column, then these. Returns the offset behind it, or
+// the file's end where it is cut off.
+fn show_case(file: &[u8], at: usize) -> usize
+    requires { ⌜ at < length (now file) ⌝ }
+    ensures { λ r. ⌜ at < r ⌝ }
+{
+    let size = file.len();
+    if size - at < 8 {
+        return size;
+    }
+    let title = at + 8;
+    let column = title + length_at(file, at);
+    let end = column + length_at(file, at + 4);
+    if size < end {
+        return size;
+    }
+    show(&file[title..column], &file[column..end]);
+    end
 }
 
-// Bytes that are refused, by each number.
-fn show_refusals() {
-    show(b"no bytes\n", b"");
-    show(b"a fourth codec\n", b"\x03");
-    show(b"the gcd ends early\n", b"\x00\x80\x00");
-    show(b"gcd 0\n", b"\x00\x80\x80");
-    show(
-        b"the maximum would be 2^64\n",
-        b"\x00\x7F\x7F\x7F\x7F\x7F\x7F\x7F\x7F\x7F\x81\x81\x81",
-    );
-    show(b"a width of 57\n", b"\x01\x80\x81\x80\x80\x80\x80\x39");
-    show(b"the area is a byte short\n", b"\x00\x8A\x8A\x82\x83");
-    show(b"1,048,577 rows\n", b"\x00\x87\x81\x80\x01\x00\xC0");
-    show(
-        b"1,048,577 rows in blocks\n",
-        b"\x02\x87\x81\x80\x01\x00\xC0\x00\x00\x00\x00",
-    );
-    show(b"65,537 bytes\n", &[0u8; 65537]);
+// Shows the cases of a file.
+fn show_all(file: &[u8]) {
+    let size = file.len();
+    let mut at = 0;
+    while at < size {
+        at = show_case(file, at);
+    }
 }
 
 fn main() {
-    show_columns();
-    show_refusals();
+    let mut file = [0u8; 131072];
+    let n = files::read_named(1, &mut file);
+    show_all(&file[..n]);
 }

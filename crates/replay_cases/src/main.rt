@@ -1,23 +1,9 @@
 // Replays the recordings of a file of cases, each below its title, through the call that `replay` makes. tools/answers/replays.py wrote the file, and says what
 // has to be printed.
-ghost use Prim.Native.Nat.{_+_, _^_, _≤_, _<_};
+ghost use Prim.Native.Nat.{_<_};
 ghost use lib.ListN.{length};
+use cases::length_at;
 use libc::STDOUT_FILENO;
-
-// Four bytes as a number, little end first.
-fn joined(a: u8, b: u8, c: u8, d: u8) -> usize
-    ensures { λ r. ⌜ r < 2 ^ 32 ⌝ }
-{
-    a as usize + 256 * (b as usize) + 65536 * (c as usize) + 16777216 * (d as usize)
-}
-
-// Internal: asks for four bytes from an offset on. The length that they spell.
-fn length_at(file: &[u8], at: usize) -> usize
-    requires { ⌜ at + 4 ≤ length (now file) ⌝ }
-    ensures { λ r. ⌜ r < 2 ^ 32 ⌝ }
-{
-    joined(file[at], file[at + 1], file[at + 2], file[at + 3])
-}
 
 // Writes a title, and the report of a replay.
 fn show(title: &[u8], bytes: &[u8], recording: &[u8]) {
