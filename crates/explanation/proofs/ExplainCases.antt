@@ -1,11 +1,14 @@
 -- Columns with their explanations, computed: each codec, bytes behind the area and left over in the footer, no rows, refusals. One statement over the table.
---     text                   lines as text
+--     text                         lines as text
 --     cases, cases-hold
+--     p10Lines, p10-explained      P10 by itself: `decimal` computes with a bound as large as the number, here the slope 2^31, so the law of digits gives these
 -- Assumes nothing.
 use Prim.Native.Nat.{ℕ}
 use Prim.Native.String.{String}
-use mathlib.Core.Path.{_≡_, refl}
+use mathlib.Core.Path.{_≡_, refl, sym, ap, _∙_}
 use mathlib.Core.List.{List, [], _∷_, _++_, map}
+use lib.Dec.{lit<, lit≤}
+use Rattle.format.specs.declared.PartName.the-variants.{BlockSlope}
 use Rattle.format.specs.Varint.{scan, readVarint}
 use Rattle.format.specs.Packing.{bytesNum, width, bitLength, bitsIn}
 use Rattle.format.specs.Stats.{readHead}
@@ -13,7 +16,9 @@ use Rattle.format.specs.Opening.{opened, openBody, openBitpacked, openLinear, o
 use Rattle.format.specs.Parts.{blockNames, extent, spelled, partsFrom}
 use Rattle.format.specs.Listing.{ascii, decimalIn, decimal, named, namedLine, rowTexts, openedHere}
 use Rattle.format.proofs.Cases.{p9, p10}
-use Rattle.explanation.specs.Explained.{placeText, partLine, explanation}
+use Rattle.format.proofs.Example.{p10Loaded}
+use Rattle.text.proofs.Decimals.{digits-decimal}
+use Rattle.explanation.specs.Explained.{nameText, placeText, partLine, textAt, explanation}
 
 -- lines as text, each with its line feed
 abbrev pub text : List String → List ℕ
@@ -57,3 +62,46 @@ cases =
 pub cases-hold : map (λ (c : Case). explanation (c .bytes)) cases ≡ map (λ (c : Case). text (c .lines)) cases
 unfolding scan readVarint bytesNum width bitLength bitsIn readHead opened openBody openBitpacked openLinear openBlockwise readWidth readFields readBlocks blockNames extent spelled partsFrom decimalIn decimal named namedLine rowTexts openedHere placeText partLine explanation
 cases-hold = refl
+
+-- ---- P10
+
+abbrev pub p10Lines : List String
+p10Lines =
+    "0 1 code 2" ∷ "1 1 minimum 10" ∷ "2 1 gcd 10" ∷ "3 1 count 2" ∷ "4 1 rows 3" ∷ "5 1 area"
+    ∷ "6 5 block 0 slope 2147483648" ∷ "11 1 block 0 intercept 0" ∷ "12 1 block 0 width 2" ∷ "13 4 footer length 7" ∷ []
+
+-- the text of its part n
+abbrev p10Text : (n : ℕ) → List ℕ
+p10Text n = textAt (p10 0x08) (p10Loaded .column) n
+
+-- the parts before the slope, and the rest of the text
+abbrev untilSlope : (rest : List ℕ) → List ℕ
+untilSlope rest = p10Text 0 ++ (p10Text 1 ++ (p10Text 2 ++ (p10Text 3 ++ (p10Text 4 ++ (p10Text 5 ++ (p10Text 6 ++ rest))))))
+
+-- the slope's line, by what is said behind its name
+abbrev slopeLine : (said : List ℕ) → List ℕ
+slopeLine said = placeText 6 5 ++ (nameText (BlockSlope 0) ++ (said ++ ascii "\n"))
+
+-- its digits
+slope-digits : named (ascii " ") 2147483648 ≡ ascii " 2147483648"
+unfolding named
+slope-digits = ap (λ (l : List ℕ). ascii " " ++ l) (sym (digits-decimal 10 2147483648 (lit≤ tt, lit< tt, λ _. lit≤ tt)))
+
+-- all parts; the slope's; the text with its digits in place
+p10-parts : explanation (p10 0x08) ≡ untilSlope (p10Text 7 ++ rowTexts p10Text 8 4)
+unfolding scan readVarint bytesNum readHead opened openBody openBlockwise readWidth readFields readBlocks blockNames extent spelled partsFrom rowTexts openedHere explanation
+p10-parts = refl
+
+p10-slope : p10Text 7 ≡ slopeLine (named (ascii " ") 2147483648)
+unfolding scan readVarint bytesNum blockNames extent spelled partsFrom partLine
+p10-slope = refl
+
+p10-text : untilSlope (slopeLine (ascii " 2147483648") ++ rowTexts p10Text 8 4) ≡ text p10Lines
+unfolding scan readVarint bytesNum blockNames extent spelled partsFrom decimalIn decimal named rowTexts placeText partLine
+p10-text = refl
+
+pub p10-explained : explanation (p10 0x08) ≡ text p10Lines
+p10-explained =
+    p10-parts
+    ∙ ap (λ (l : List ℕ). untilSlope (l ++ rowTexts p10Text 8 4)) (p10-slope ∙ ap slopeLine slope-digits)
+    ∙ p10-text
