@@ -39,7 +39,7 @@ pub fn open_plain(bytes: &[u8]) -> Opened
 }
 
 // Internal: asks for what `open_plain` answers for these bytes. Puts a column's blocks into the lent table.
-fn fill(bytes: &[u8], opened: Opened, table: &mut [u64; 8192])
+pub fn fill(bytes: &[u8], opened: Opened, table: &mut [u64; 8192])
     requires { ⌜ openedMeaning opened ≡ columnIn (openedHere (now bytes)) ⌝ }
     ensures { λ _. ⌜ now (table .exit) ≡ stored (tableIn (openedHere (now (bytes .entry)))) (now (table .entry)) ⌝ }
 {
