@@ -12,3 +12,5 @@ pub mod Offsets
 -- what the calls come to
 pub mod Blames
 pub mod Determined
+-- computed cases
+pub mod BlameCases

@@ -7,3 +7,5 @@ pub mod Placing
 -- what the calls come to
 pub mod Explanations
 pub mod Determined
+-- computed cases
+pub mod ExplainCases
