@@ -51,11 +51,12 @@ abbrev pub lineLength : Begun → ℕ
 lineLength (Columns c d) = 0
 lineLength (Line n) = n
 
--- the numbers for each side's table
+-- the numbers for the left side's table
 abbrev pub leftTable : Start → List ℕ
 leftTable (both o p) = o .table
 leftTable (only l) = []
 
+-- and for the right one's
 abbrev pub rightTable : Start → List ℕ
 rightTable (both o p) = p .table
 rightTable (only l) = []
