@@ -97,6 +97,7 @@ pub struct ColumnStats {
 }
 
 // A line in whole numbers: the slope has 32 bits after the point.
+#[repr(C)]
 pub struct Line {
     pub slope: u64,
     pub intercept: u64,
@@ -128,6 +129,7 @@ pub struct Column {
 }
 
 // A block of a Blockwise column: its line, the width of its packed numbers, and its start byte, counted from the area's start.
+#[repr(C)]
 pub struct Block {
     pub line: Line,
     pub bits: u64,
