@@ -1,6 +1,5 @@
 -- Deviations, and the fit that they give.
 --     deviations-length, deviation-at                          one for each value
---     deviated                                                 by the line a half lower
 --     Spreading, spreading-starts, spreading-next, spreading-ends
 --                                                              the walk for the least and the greatest
 --     Copying, copying-starts, copying-next, copying-ends      the walk that copies the first 512 values
@@ -8,9 +7,8 @@
 -- Assumes nothing.
 use mathlib.Core.Path.{_≡_, refl, sym, ap, _∙_}
 use mathlib.Core.List.{List}
-use Prim.Native.Nat.{ℕ, _+_, _-_, _%_, _^_, _≤_, _<_, min, max}
+use Prim.Native.Nat.{ℕ, _+_, _-_, _≤_, _<_, min, max}
 use native.Mathlib.Numerals.{add-one}
-use native.Mathlib.Nat.{sub-zero}
 use native.Mathlib.Omega.{arith}
 use lib.ListN.{length, getD, take, drop, set, length-map, length-set}
 use lib.Seq.{take-suc, take-suc-set, take-all}
@@ -22,8 +20,7 @@ use Rattle.format.specs.Line.{lineAt, residuals}
 use Rattle.format.specs.Bodies.{half, deviations, firstLine, linearLine, linearWidth}
 use Rattle.format.proofs.Lists.{map-at}
 use Rattle.format.proofs.Folds.{fold-step, fold-end, reduce-start}
-use Rattle.format.proofs.Words.{sub-raised}
-use Rattle.format.proofs.Lines.{line-below, residual-lowered, residuals-length, residual-at}
+use Rattle.format.proofs.Lines.{residuals-length, residual-at}
 use Rattle.stats.proofs.Described.{ordered}
 use Rattle.linear.specs.declared.writer.Spread.{Spread}
 use Rattle.linear.specs.Writer.{Spreads, Fits}
@@ -111,13 +108,3 @@ pub fit-is : (vs : List ℕ) {l : Line} {s : Spread} {raised intercept w : ℕ} 
 unfolding linearLine linearWidth
 fit-is vs first s up down wide =
     record { line = rw (down, up, s .low, first); bits = rw (wide, s .low, s .high, first) }
-
--- a deviation from a line is what is left above the line that lies a half lower
-pub deviated : (l : Line) (x y : ℕ) → l .intercept < 2 ^ 64 → modAdd (modSub y (lineAt l x)) half ≡ modSub y (lineAt (record { slope = l .slope; intercept = modSub (l .intercept) half }) x)
-deviated l x y h =
-    sub-raised y (lineAt l x) half (line-below l x)
-    ∙ sym (residual-lowered l x y 0 half (omega arith) (omega arith) ∙ sub-zero _)
-    ∙ ap (λ (i : ℕ). modSub y (lineAt (record { slope = l .slope; intercept = modSub i half }) x)) (itself (l .intercept) h)
-  where
-    itself : (i : ℕ) → i < 2 ^ 64 → (i + 0) % 2 ^ 64 ≡ i
-    itself i small = omega arith

@@ -33,15 +33,11 @@ pub struct Fit {
     pub bits: u8,
 }
 
-// What is left of y above the line at x, moved up by a half: what is left above the line that lies a half lower, which is the same line in every turn of a loop.
+// What is left of y above the line at x, moved up by a half.
 fn deviation(line: Line, x: u64, y: u64) -> u64
     ensures { λ r. ⌜ r ≡ modAdd (modSub y (lineAt line x)) half ⌝ }
 {
-    let lowered = Line {
-        slope: line.slope,
-        intercept: word::sub(line.intercept, HALF),
-    };
-    line::residual(lowered, x, y)
+    word::add(line::residual(line, x, y), HALF)
 }
 
 // The spread of all values around a line.

@@ -3,7 +3,7 @@
 ghost use mathlib.Core.Path.{_≡_};
 ghost use Rattle.format.specs.Refusals.{rowMeaning, signedMeaning, flagMeaning, floatMeaning};
 ghost use Rattle.format.specs.Typed.{storedSigned, signedOf, flagOf, storedFloat, floatOf, storedIn, readAs, signedRange, flagRange, floatRange};
-ghost use Rattle.monotonic_mapping.specs.Flips.{isNumber, isFlag, isFloat, clearFlip, setFlip, mostStored, flip};
+ghost use Rattle.monotonic_mapping.specs.Flips.{isNumber, isFlag, isFloat, flip, flipped, mostStored};
 use format::FlagRead;
 use format::FloatRead;
 use format::Kind;
@@ -14,22 +14,19 @@ use format::SignedRead;
 // The sign bit.
 const SIGN: u64 = 0x8000_0000_0000_0000;
 
-// The stored number of a float, by its bits.
+// The stored number of a float, by its bits: the sign bit is inverted, and where it is set all bits are. The mask is worked out with no
+// comparison, on which a pass over floats of both signs would branch.
 fn stored_float(bits: u64) -> u64
     ensures { λ r. ⌜ r ≡ storedFloat bits ⌝ }
 {
-    if bits < SIGN {
-        bits + SIGN
-    } else {
-        u64::MAX - bits
-    }
+    let all = word::sub(0, bits >> 63);
+    bits ^ (all | SIGN)
 }
 
 // ---- one value of a list
 //
 // A pass over a list asks for the stored number of every value. For plain numbers that is one test, of the kind, which answers the same
-// every time. For the other kinds each question about the kind is one comparison, so that the bits to be inverted and the greatest number
-// can be worked out before the loop and no branch by the kind is left in it.
+// every time. For the other kinds each question about the kind chooses between two numbers, so that no branch is left in the loop.
 
 // Whether values are numbers as they stand.
 fn is_number(kind: Kind) -> bool
@@ -70,9 +67,9 @@ fn is_float(kind: Kind) -> bool
     }
 }
 
-// What is inverted of a word without the sign bit.
-fn clear_flip(kind: Kind) -> u64
-    ensures { λ r. ⌜ r ≡ clearFlip kind ⌝ }
+// What is inverted of a word that is no float: the sign bit, but nothing of a bool.
+fn flip(kind: Kind) -> u64
+    ensures { λ r. ⌜ r ≡ flip kind ⌝ }
 {
     if is_flag(kind) {
         return 0;
@@ -80,14 +77,14 @@ fn clear_flip(kind: Kind) -> u64
     SIGN
 }
 
-// What is inverted of a word with it.
-fn set_flip(kind: Kind) -> u64
-    ensures { λ r. ⌜ r ≡ setFlip kind ⌝ }
+// A word with its bits inverted.
+fn flipped(kind: Kind, x: u64) -> u64
+    ensures { λ r. ⌜ r ≡ flipped kind x ⌝ }
 {
     if is_float(kind) {
-        return u64::MAX;
+        return stored_float(x);
     }
-    clear_flip(kind)
+    x ^ flip(kind)
 }
 
 // The greatest number that is stored.
@@ -100,13 +97,6 @@ fn most_stored(kind: Kind) -> u64
     u64::MAX
 }
 
-// A word with its bits inverted, by the sign bit.
-fn flip(x: u64, clear: u64, set: u64) -> u64
-    ensures { λ r. ⌜ r ≡ flip x clear set ⌝ }
-{
-    if x < SIGN { x ^ clear } else { x ^ set }
-}
-
 // The stored number of a value of a kind, lent as a word.
 pub fn stored_of(kind: Kind, x: u64) -> u64
     ensures { λ r. ⌜ r ≡ storedIn kind x ⌝ }
@@ -115,8 +105,7 @@ pub fn stored_of(kind: Kind, x: u64) -> u64
         return x;
     }
     let most = most_stored(kind);
-    let flipped = flip(x, clear_flip(kind), set_flip(kind));
-    word::lesser(flipped, most)
+    word::lesser(flipped(kind, x), most)
 }
 
 // ---- reading

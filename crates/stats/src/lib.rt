@@ -36,20 +36,21 @@ fn gcd_of(a: u64, b: u64) -> u64
     large
 }
 
-// The same, with no division once the gcd is 1.
-fn joined(d: u64, g: u64) -> u64
-    ensures { λ r. ⌜ r ≡ gcd d g ⌝ }
-{
-    if g == 1 {
-        return 1;
-    }
-    gcd_of(d, g)
-}
-
+// How far two numbers are apart.
 fn apart(a: u64, b: u64) -> u64
     ensures { λ r. ⌜ r ≡ distance a b ⌝ }
 {
     if a < b { b - a } else { a - b }
+}
+
+// The gcd of a distance and of the distances before it. Once it is 1 it stays, and the distance is not worked out.
+fn joined(a: u64, b: u64, g: u64) -> u64
+    ensures { λ r. ⌜ r ≡ gcd (distance a b) g ⌝ }
+{
+    if g == 1 {
+        return 1;
+    }
+    gcd_of(apart(a, b), g)
 }
 
 // Internal: asks for fewer than 2^32 values. The statistics of the numbers that they are stored as.
@@ -75,7 +76,7 @@ pub fn collect(kind: Kind, values: &[u64]) -> ColumnStats
         let v = monotonic_mapping::stored_of(kind, values[i]);
         lo = word::lesser(lo, v);
         hi = word::larger(hi, v);
-        g = joined(apart(v, first), g);
+        g = joined(v, first, g);
         i += 1;
     }
     ColumnStats {

@@ -14,23 +14,17 @@ returns c = stored-plain _ _ (c .before .is-number .ensures) (c .if1 .taken)
 most-stored-requires : tie.Need-most-stored-requires
 most-stored-requires c κs = search needs
 
-clear-flip-requires : tie.Need-clear-flip-requires
-clear-flip-requires c κs = search needs
-
-set-flip-requires : tie.Need-set-flip-requires
-set-flip-requires c κs = search needs
-
-flip-requires : tie.Need-flip-requires
-flip-requires c κs = search needs
+flipped-requires : tie.Need-flipped-requires
+flipped-requires c κs = search needs
 
 lesser-requires : tie.Need-lesser-requires
 lesser-requires c κs = search needs
 
 returns-2 : tie.Need-returns-2
-returns-2 c = let asked = c .before .before .before .before .before in
+returns-2 c = let asked = c .before .before .before in
     let start = asked .before .before in
-    stored-by (start .args .kind) (start .args .x) (asked .before .is-number .ensures) (asked .if1 .left) (start .fits .x .fits) (c .before .before .before .before .most-stored .ensures)
-    (c .before .before .before .clear-flip .ensures) (c .before .before .set-flip .ensures) (c .before .flip .ensures) (c .lesser .ensures)
+    stored-by (start .args .kind) (start .args .x) (asked .before .is-number .ensures) (asked .if1 .left) (start .fits .x .fits) (c .before .before .most-stored .ensures)
+    (c .before .flipped .ensures) (c .lesser .ensures)
 
 pub stored-of-spec : {M : Type 1} → statement M
 stored-of-spec =
@@ -39,8 +33,6 @@ stored-of-spec =
     is-number-requires
     returns
     most-stored-requires
-    clear-flip-requires
-    set-flip-requires
-    flip-requires
+    flipped-requires
     lesser-requires
     returns-2)

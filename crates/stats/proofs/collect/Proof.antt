@@ -88,9 +88,6 @@ lesser-requires c κs = search needs
 larger-requires : tie.Need-larger-requires Inv-loop μ-loop
 larger-requires c κs = search needs
 
-apart-requires : tie.Need-apart-requires Inv-loop μ-loop
-apart-requires c κs = search needs
-
 joined-requires : tie.Need-joined-requires Inv-loop μ-loop
 joined-requires c κs = search needs
 
@@ -102,11 +99,11 @@ loop-less c = search needs
 
 loop-again : tie.Need-loop-again Inv-loop μ-loop
 loop-again c =
-    let turn = c .before .before .before .before in
+    let turn = c .before .before .before in
     let at-loop = turn .before .before .before in
     let a = at-loop .before .before .before .before .before .args in
     let is = turn .stored-of2 .ensures ∙ sym (stored-at (a .kind) (now (a .values)) (at-loop .loop .i) (search needs)) in
-    rw (c .before .before .before .lesser .ensures, c .before .before .larger .ensures, c .joined .ensures, c .before .apart .ensures, is)
+    rw (c .before .before .lesser .ensures, c .before .larger .ensures, c .joined .ensures, is)
     (step _ _ _ _ _ _ (rw (stored-length (a .kind) (now (a .values))) (search needs)) (at-loop .loop .inv))
 
 larger-requires-2 : tie.Need-larger-requires-2 Inv-loop μ-loop
@@ -136,7 +133,6 @@ collect-spec =
     stored-of-requires-2
     lesser-requires
     larger-requires
-    apart-requires
     joined-requires
     add-i
     loop-less

@@ -9,11 +9,14 @@ use Rattle.stats.proofs.joined.Tie as tie
 returns : tie.Need-returns
 returns c = rw (c .if1 .taken) (sym (gcd-one _))
 
+apart-requires : tie.Need-apart-requires
+apart-requires c κs = search needs
+
 gcd-of-requires : tie.Need-gcd-of-requires
 gcd-of-requires c κs = search needs
 
 returns-2 : tie.Need-returns-2
-returns-2 c = search needs
+returns-2 c = rw (c .gcd-of .ensures, c .before .apart .ensures)
 
 pub joined-spec : {M : Type 1} → statement M
-joined-spec = tie.close (tie.spec returns gcd-of-requires returns-2)
+joined-spec = tie.close (tie.spec returns apart-requires gcd-of-requires returns-2)
