@@ -6,15 +6,16 @@
 --     by-sheet, calls-pass               .. under either sheet
 --     Told, calls-tell                   demand 3: what `row` answers depends on its row's own bits, and tells every change of them
 -- Assumes nothing.
-use Prim.Native.Nat.{ℕ, zero, suc, _+_, _*_, _/_, _^_, _≤_, _<_}
+use Prim.Native.Nat.{ℕ, zero, suc, _+_, _/_, _^_, _≤_, _<_}
 use mathlib.Core.Path.{_≡_, refl, sym, ap, _∙_, subst}
 use mathlib.Core.Logic.{_⊎_, inl, inr, ⊎-elim}
-use mathlib.Core.List.{List, [], _∷_}
+use mathlib.Core.List.{List, []}
 use mathlib.Core.Bool.{Bool, true, false}
 use native.Mathlib.Omega.{arith}
 use lib.ListN.{length, take, drop, getD}
 use lib.Seq.{sets, sets-eq, take-at}
 use borrow.Author.Tests.{lt-ltb}
+use Rattle.format.specs.declared.Block.{Block}
 use Rattle.format.specs.declared.Column.{Column}
 use Rattle.format.specs.declared.Found.{Found}
 use Rattle.format.specs.declared.Opened.{Opened}
@@ -48,55 +49,55 @@ use Rattle.format.specs.Calls.{FoundAs, OpenedAs, SerializedAs}
 -- ---- opening
 
 -- an answer of `open` that is a column: what opening found, whose column and spelling it is and whose blocks the lent table holds afterwards
-pub record Opens (s table after : List ℕ) (c : Column) (p : Spelling) (o : Loaded) : Type 0 where
-  pub found : opened s (length table / 4) ≡ value o
+pub record Opens (s : List ℕ) (table after : List Block) (c : Column) (p : Spelling) (o : Loaded) : Type 0 where
+  pub found : opened s (length table) ≡ value o
   pub column : o .column ≡ c
   pub spelling : o .spelling ≡ p
   pub filled : after ≡ filledBy o table
 
-pub opens : (s table after : List ℕ) (c : Column) (p : Spelling) → OpenedAs (opened s (length table / 4)) (OpenedColumn c p) table after → (o : Loaded) × Opens s table after c p o
-opens s table after c p r = go (opened s (length table / 4)) refl r
+pub opens : (s : List ℕ) (table after : List Block) (c : Column) (p : Spelling) → OpenedAs (opened s (length table)) (OpenedColumn c p) table after → (o : Loaded) × Opens s table after c p o
+opens s table after c p r = go (opened s (length table)) refl r
   where
-    go : (x : Outcome Loaded) → opened s (length table / 4) ≡ x → OpenedAs x (OpenedColumn c p) table after → (o : Loaded) × Opens s table after c p o
+    go : (x : Outcome Loaded) → opened s (length table) ≡ x → OpenedAs x (OpenedColumn c p) table after → (o : Loaded) × Opens s table after c p o
     go (value o) is r =
         let same : _≡_ {A = Column × Spelling} (c, p) (o .column, o .spelling) = value-same (r .answer) in
         (o, record { found = is; column = sym (ap (λ (a : Column × Spelling). a .0) same); spelling = sym (ap (λ (a : Column × Spelling). a .1) same); filled = r .table })
     go (refusal number also) is r = absurd (not-value (sym (r .answer)))
 
 -- reading a window with what the call left is the demands' reading
-pub reads : {s table after : List ℕ} {c : Column} {p : Spelling} {o : Loaded} → Opens s table after c p o → (w : Window) (r : ℕ) → rowAt (windowed c w) after s r ≡ answered (inWindow o w) table s r
+pub reads : {s : List ℕ} {table after : List Block} {c : Column} {p : Spelling} {o : Loaded} → Opens s table after c p o → (w : Window) (r : ℕ) → rowAt (windowed c w) after s r ≡ answered (inWindow o w) table s r
 reads {s} {table} {after} {c} {p} {o} e w r = rw (e .filled, ← (e .column))
 
 -- the rows of a column that was opened, and then narrowed any number of times, answer a value or 14
-pub own-rows : (s table after : List ℕ) (c : Column) (p : Spelling) → OpenedAs (opened s (length table / 4)) (OpenedColumn c p) table after → (d : Column) → NarrowedFrom c d
+pub own-rows : (s : List ℕ) (table after : List Block) (c : Column) (p : Spelling) → OpenedAs (opened s (length table)) (OpenedColumn c p) table after → (d : Column) → NarrowedFrom c d
     → (r : ℕ) → r < d .window .rows → (a : RowRead) → rowMeaning a ≡ rowAt d after s r → ((v : ℕ) × (rowMeaning a ≡ value v)) ⊎ (a ≡ NotRead (OutOfBounds r))
 own-rows s table after c p opened-as d from r h a e =
     let o = opens s table after c p opened-as in
     let f = subst (λ (x : Column). NarrowedFrom x d) (sym (o .1 .column)) from in
-    let same : rowAt d after s r ≡ rowAt d (filledBy (o .0) table) s r = ap (λ (l : List ℕ). rowAt d l s r) (o .1 .filled) in
+    let same : rowAt d after s r ≡ rowAt d (filledBy (o .0) table) s r = ap (λ (l : List Block). rowAt d l s r) (o .1 .filled) in
     ⊎-elim
     (λ v. inl (v .0, e ∙ same ∙ v .1))
     (λ g. inr (row-injective a (NotRead (OutOfBounds r)) (e ∙ same ∙ g)))
     (own-windows s table (o .0) (o .1 .found) f r h)
 
 -- where the test of fitting together fails, a row is refused 13
-unfit-row : (d : Column) (table s : List ℕ) (r : ℕ) → r < d .window .rows → fits d (length table / 4) (blockAt table (columnRow d r / 512)) s (columnRow d r) ≡ false → rowAt d table s r ≡ refusal 13 []
+unfit-row : (d : Column) (table : List Block) (s : List ℕ) (r : ℕ) → r < d .window .rows → fits d (length table) (blockAt table (columnRow d r / 512)) s (columnRow d r) ≡ false → rowAt d table s r ≡ refusal 13 []
 unfolding rowIn
 unfit-row d table s r h e = rw (lt-ltb r (d .window .rows) h, e)
 
 -- such a column, read with the very bytes and table of its opening, fits together with them at every row: 13 is never met
-pub own-fits : (s table after : List ℕ) (c : Column) (p : Spelling) → OpenedAs (opened s (length table / 4)) (OpenedColumn c p) table after → (d : Column) → NarrowedFrom c d
-    → (r : ℕ) → r < d .window .rows → fits d (length after / 4) (blockAt after (columnRow d r / 512)) s (columnRow d r) ≡ true
+pub own-fits : (s : List ℕ) (table after : List Block) (c : Column) (p : Spelling) → OpenedAs (opened s (length table)) (OpenedColumn c p) table after → (d : Column) → NarrowedFrom c d
+    → (r : ℕ) → r < d .window .rows → fits d (length after) (blockAt after (columnRow d r / 512)) s (columnRow d r) ≡ true
 own-fits s table after c p opened-as d from r h =
-    by-test (fits d (length after / 4) (blockAt after (columnRow d r / 512)) s (columnRow d r)) refl
+    by-test (fits d (length after) (blockAt after (columnRow d r / 512)) s (columnRow d r)) refl
   where
     o : (l : Loaded) × Opens s table after c p l
     o = opens s table after c p opened-as
 
     never : rowAt d after s r ≡ refusal 13 [] → ⊥
-    never e = never-unfit s table (o .0) (o .1 .found) (subst (λ (x : Column). NarrowedFrom x d) (sym (o .1 .column)) from) r (ap (λ (l : List ℕ). rowAt d l s r) (sym (o .1 .filled)) ∙ e)
+    never e = never-unfit s table (o .0) (o .1 .found) (subst (λ (x : Column). NarrowedFrom x d) (sym (o .1 .column)) from) r (ap (λ (l : List Block). rowAt d l s r) (sym (o .1 .filled)) ∙ e)
 
-    by-test : (t : Bool) → fits d (length after / 4) (blockAt after (columnRow d r / 512)) s (columnRow d r) ≡ t → t ≡ true
+    by-test : (t : Bool) → fits d (length after) (blockAt after (columnRow d r / 512)) s (columnRow d r) ≡ t → t ≡ true
     by-test true e = refl
     by-test false e = absurd (never (unfit-row d after s r h e))
 
@@ -114,7 +115,7 @@ written-of (refusal number also) before after n r =
     absurd (omega arith)
 
 -- what the calls give back of a list through a column's window: as many rows, each value, and what a lookup in the list finds
-pub record Shows (vs s after : List ℕ) (c : Column) : Type 0 where
+pub record Shows (vs s : List ℕ) (after : List Block) (c : Column) : Type 0 where
   pub count : c .window .rows ≡ length vs
   pub rows : (r : ℕ) → r < length vs → (b : RowRead) → rowMeaning b ≡ rowAt c after s r → b ≡ Value (getD vs r 0)
   pub found : (low high first end : ℕ) (before list : List ℕ) (f : Found)
@@ -122,14 +123,14 @@ pub record Shows (vs s after : List ℕ) (c : Column) : Type 0 where
       → FoundAs (lookedUp (readsAs vs) (length vs) (within low high) first end (length before)) f before list
 
 -- from bytes that were opened: a column that is spelled as short as can be and gives back the list, and through any window in it that part of the list
-pub record Returned (vs s after : List ℕ) (a : Opened) : Type 0 where
+pub record Returned (vs s : List ℕ) (after : List Block) (a : Opened) : Type 0 where
   pub column : Column
   pub opens-to : a ≡ OpenedColumn column Shortest
   pub all : Shows vs s after column
   pub windows : (w : Window) → w .first + w .rows ≤ column .rows → Shows (shown w vs) s after (windowed column w)
 
 -- what an opened column gives back
-shows : (vs bytes table after : List ℕ) (o : Loaded) → after ≡ filledBy o table → GivesBack vs bytes table o → Shows vs bytes after (o .column)
+shows : (vs bytes : List ℕ) (table after : List Block) (o : Loaded) → after ≡ filledBy o table → GivesBack vs bytes table o → Shows vs bytes after (o .column)
 shows vs bytes table after o left back =
     record {
       count = back .count;
@@ -141,8 +142,8 @@ shows vs bytes table after o left back =
     }
 
 -- a written column that is opened
-returned : (vs cs bytes table after : List ℕ) (room : ℕ) → AllBelow (2 ^ 64) vs → written vs cs room ≡ value bytes → 4 * blockCount (length vs) ≤ length table
-    → (a : Opened) → OpenedAs (opened bytes (length table / 4)) a table after → Returned vs bytes after a
+returned : (vs cs bytes : List ℕ) (table after : List Block) (room : ℕ) → AllBelow (2 ^ 64) vs → written vs cs room ≡ value bytes → blockCount (length vs) ≤ length table
+    → (a : Opened) → OpenedAs (opened bytes (length table)) a table after → Returned vs bytes after a
 returned vs cs bytes table after room each e enough a opened-as =
     let g = demand2 .0 vs cs bytes table room each e enough in
     let o : Loaded = g .0 in
@@ -160,12 +161,12 @@ front-of out after bytes n e f h = rw (e, f, sets-eq bytes out 0 (omega arith)) 
 
 -- demand 2, of the calls: what `serialize` wrote, opened with any table that has room, gives back the list
 pub calls-return : (vs cs out written-out : List ℕ) (n : ℕ) → AllBelow (2 ^ 64) vs → SerializedAs (written vs cs (length out)) (Length n) out written-out
-    → (table after : List ℕ) → 4 * blockCount (length vs) ≤ length table
-    → (a : Opened) → OpenedAs (opened (take n written-out) (length table / 4)) a table after → Returned vs (take n written-out) after a
+    → (table after : List Block) → blockCount (length vs) ≤ length table
+    → (a : Opened) → OpenedAs (opened (take n written-out) (length table)) a table after → Returned vs (take n written-out) after a
 calls-return vs cs out written-out n each wrote table after enough a opened-as =
     let w = written-of (written vs cs (length out)) out written-out n wrote in
     let front : take n written-out ≡ w .0 = front-of out written-out (w .0) n (w .2) (w .3) (written-as vs cs (w .0) (length out) (w .1) .fits) in
-    subst (λ (s : List ℕ). OpenedAs (opened s (length table / 4)) a table after → Returned vs s after a) (sym front)
+    subst (λ (s : List ℕ). OpenedAs (opened s (length table)) a table after → Returned vs s after a) (sym front)
     (returned vs cs (w .0) table after (length out) each (w .1) enough a) opened-as
 
 -- ---- sheets
@@ -180,21 +181,21 @@ by-sheet (suc (suc (suc sheet))) s room o is both more known = absurd (omega ari
 
 -- demand 2, of the calls, under either sheet: what `serialize` wrote is accepted and gives back the list
 pub calls-pass : (vs cs out written-out : List ℕ) (n : ℕ) → AllBelow (2 ^ 64) vs → SerializedAs (written vs cs (length out)) (Length n) out written-out
-    → (table after : List ℕ) → 4 * blockCount (length vs) ≤ length table → (sheet : ℕ) → 0 < sheet → sheet ≤ 2
-    → (a : Opened) → OpenedAs (openedUnder sheet (take n written-out) (length table / 4)) a table after → Returned vs (take n written-out) after a
+    → (table after : List Block) → blockCount (length vs) ≤ length table → (sheet : ℕ) → 0 < sheet → sheet ≤ 2
+    → (a : Opened) → OpenedAs (openedUnder sheet (take n written-out) (length table)) a table after → Returned vs (take n written-out) after a
 calls-pass vs cs out written-out n each wrote table after enough sheet more known a opened-as =
     let w = written-of (written vs cs (length out)) out written-out n wrote in
     let front : take n written-out ≡ w .0 = front-of out written-out (w .0) n (w .2) (w .3) (written-as vs cs (w .0) (length out) (w .1) .fits) in
     let g = demand2 .0 vs cs (w .0) table (length out) each (w .1) enough in
     let both = written-passes vs cs (w .0) table (length out) each (w .1) enough (g .0) (g .1) in
-    let same : openedUnder sheet (take n written-out) (length table / 4) ≡ opened (take n written-out) (length table / 4) =
-    rw front (by-sheet sheet (w .0) (length table / 4) (g .0) (g .1) both more known) in
+    let same : openedUnder sheet (take n written-out) (length table) ≡ opened (take n written-out) (length table) =
+    rw front (by-sheet sheet (w .0) (length table) (g .0) (g .1) both more known) in
     calls-return vs cs out written-out n each wrote table after enough a (subst (λ (x : Outcome Loaded). OpenedAs x a table after) same opened-as)
 
 -- ---- demand 3
 
 -- two byte strings that differ only inside the packed area, each opened by a call: one column, and answers in any window that go by the row's own bits
-pub record Told (s t after other-after : List ℕ) (c d : Column) (o : Loaded) : Type 0 where
+pub record Told (s t : List ℕ) (after other-after : List Block) (c d : Column) (o : Loaded) : Type 0 where
   pub same : c ≡ d
   pub agree : (w : Window) → w .first + w .rows ≤ c .rows → (r : ℕ) → r < w .rows → SameBits o s t (w .first + r)
       → (a b : RowRead) → rowMeaning a ≡ rowAt (windowed c w) after s r → rowMeaning b ≡ rowAt (windowed d w) other-after t r → a ≡ b
@@ -210,7 +211,7 @@ differ-too r a b x y e f (inr both) =
     inr (row-injective a (NotRead (OutOfBounds r)) (e ∙ both .0), row-injective b (NotRead (OutOfBounds r)) (f ∙ both .1))
 
 -- demand 3, of the calls
-pub calls-tell : (s t table other after other-after : List ℕ) (c d : Column) (q r : Spelling) (o p : Loaded) → Opens s table after c q o → Opens t other other-after d r p → Alike s t o
+pub calls-tell : (s t : List ℕ) (table other after other-after : List Block) (c d : Column) (q r : Spelling) (o p : Loaded) → Opens s table after c q o → Opens t other other-after d r p → Alike s t o
     → Told s t after other-after c d o
 calls-tell s t table other after other-after c d q r o p e f alike =
     let told : RowsTell s t table other o p = demand3 .2 s t table other o p (e .found) (f .found) alike in

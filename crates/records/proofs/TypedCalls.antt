@@ -6,7 +6,7 @@
 --                                                    `lookup` by the range of some values is a lookup of those, in any column
 --     typed-tell                                     demand 3: what two answers read as differs where the row's bits do
 -- Assumes nothing.
-use Prim.Native.Nat.{ℕ, _+_, _*_, _/_, _^_, _≤_, _<_}
+use Prim.Native.Nat.{ℕ, _+_, _^_, _≤_, _<_}
 use mathlib.Core.Path.{_≡_, sym, _∙_, subst}
 use mathlib.Core.Bool.{Bool}
 use mathlib.Core.List.{List}
@@ -14,6 +14,7 @@ use lib.Dec.{ltb}
 use lib.IntN.{ℤ}
 use lib.ListN.{length, take, getD}
 use lib.Signed.{mag}
+use Rattle.format.specs.declared.Block.{Block}
 use Rattle.format.specs.declared.Column.{Column}
 use Rattle.format.specs.declared.FlagRead.{FlagRead}
 use Rattle.format.specs.declared.FlagRead.the-variants.{Value as FlagValue}
@@ -49,12 +50,12 @@ use Rattle.format.proofs.Writes.{written-as}
 use Rattle.format.proofs.TypedLookups.{row-words, covered-lookup, signed-covers, flag-covers, float-covers}
 use Rattle.format.proofs.TypedDemands.{returns-as, shortest-as, passes-as, tell-typed}
 use Rattle.format.specs.Calls.{OpenedAs, FoundAs, SerializedAs}
-use Rattle.u64_based.proofs.Calls.{Opens, reads, written-of, front-of, by-sheet}
+use Rattle.records.proofs.Calls.{Opens, reads, written-of, front-of, by-sheet}
 
 -- ---- demand 2
 
 -- what the calls give back of a list of values of a kind through a column's window: as many rows, each row's value, and by any range of stored numbers that covers some values what a lookup of those in the list itself finds
-pub record ShowsAs (kind : Kind) (xs s after : List ℕ) (c : Column) : Type 0 where
+pub record ShowsAs (kind : Kind) (xs s : List ℕ) (after : List Block) (c : Column) : Type 0 where
   pub count : c .window .rows ≡ length xs
   pub rows : (r : ℕ) → r < length xs → (b : RowRead) → rowMeaning b ≡ rowAt c after s r → readAs (readingOf kind .value) (rowMeaning b) ≡ value (meant kind (getD xs r 0))
   pub found : (low high : readingOf kind .Value) (range : Range) → Covers (readingOf kind) low high range → (first end : ℕ) (before list : List ℕ) (f : Found)
@@ -62,14 +63,14 @@ pub record ShowsAs (kind : Kind) (xs s after : List ℕ) (c : Column) : Type 0 w
       → FoundAs (lookedUp (readsAs xs) (length xs) (λ x. lies (readingOf kind) low high (meant kind x)) first end (length before)) f before list
 
 -- from bytes that were opened: a column that is spelled as short as can be and gives back the list, and through any window in it that part of the list
-pub record ReturnedAs (kind : Kind) (xs s after : List ℕ) (a : Opened) : Type 0 where
+pub record ReturnedAs (kind : Kind) (xs s : List ℕ) (after : List Block) (a : Opened) : Type 0 where
   pub column : Column
   pub opens-to : a ≡ OpenedColumn column Shortest
   pub all : ShowsAs kind xs s after column
   pub windows : (w : Window) → w .first + w .rows ≤ column .rows → ShowsAs kind (shown w xs) s after (windowed column w)
 
 -- what an opened column gives back
-shows-as : (kind : Kind) (xs bytes table after : List ℕ) (o : Loaded) → after ≡ filledBy o table → GivesBackAs kind xs bytes table o → ShowsAs kind xs bytes after (o .column)
+shows-as : (kind : Kind) (xs bytes : List ℕ) (table after : List Block) (o : Loaded) → after ≡ filledBy o table → GivesBackAs kind xs bytes table o → ShowsAs kind xs bytes after (o .column)
 shows-as kind xs bytes table after o left back =
     record {
       count = back .count;
@@ -82,8 +83,8 @@ shows-as kind xs bytes table after o left back =
     }
 
 -- a written column that is opened
-returned-as : (kind : Kind) (xs cs bytes table after : List ℕ) (room : ℕ) → AllBelow (2 ^ 64) xs → written (storedAs kind xs) cs room ≡ value bytes → 4 * blockCount (length xs) ≤ length table
-    → (a : Opened) → OpenedAs (opened bytes (length table / 4)) a table after → ReturnedAs kind xs bytes after a
+returned-as : (kind : Kind) (xs cs bytes : List ℕ) (table after : List Block) (room : ℕ) → AllBelow (2 ^ 64) xs → written (storedAs kind xs) cs room ≡ value bytes → blockCount (length xs) ≤ length table
+    → (a : Opened) → OpenedAs (opened bytes (length table)) a table after → ReturnedAs kind xs bytes after a
 returned-as kind xs cs bytes table after room each e enough a opened-as =
     let g = returns-as kind xs cs bytes table room each e enough in
     let o : Loaded = g .0 in
@@ -97,32 +98,32 @@ returned-as kind xs cs bytes table after room each e enough a opened-as =
 
 -- demand 2, of the calls: what `serialize_as` wrote, opened with any table that has room, gives back the list
 pub typed-return : (kind : Kind) (xs cs out written-out : List ℕ) (n : ℕ) → AllBelow (2 ^ 64) xs → SerializedAs (written (storedAs kind xs) cs (length out)) (Length n) out written-out
-    → (table after : List ℕ) → 4 * blockCount (length xs) ≤ length table
-    → (a : Opened) → OpenedAs (opened (take n written-out) (length table / 4)) a table after → ReturnedAs kind xs (take n written-out) after a
+    → (table after : List Block) → blockCount (length xs) ≤ length table
+    → (a : Opened) → OpenedAs (opened (take n written-out) (length table)) a table after → ReturnedAs kind xs (take n written-out) after a
 typed-return kind xs cs out written-out n each wrote table after enough a opened-as =
     let vs = storedAs kind xs in
     let w = written-of (written vs cs (length out)) out written-out n wrote in
     let front : take n written-out ≡ w .0 = front-of out written-out (w .0) n (w .2) (w .3) (written-as vs cs (w .0) (length out) (w .1) .fits) in
-    subst (λ (s : List ℕ). OpenedAs (opened s (length table / 4)) a table after → ReturnedAs kind xs s after a) (sym front)
+    subst (λ (s : List ℕ). OpenedAs (opened s (length table)) a table after → ReturnedAs kind xs s after a) (sym front)
     (returned-as kind xs cs (w .0) table after (length out) each (w .1) enough a) opened-as
 
 -- the same under either sheet
 pub typed-pass : (kind : Kind) (xs cs out written-out : List ℕ) (n : ℕ) → AllBelow (2 ^ 64) xs → SerializedAs (written (storedAs kind xs) cs (length out)) (Length n) out written-out
-    → (table after : List ℕ) → 4 * blockCount (length xs) ≤ length table → (sheet : ℕ) → 0 < sheet → sheet ≤ 2
-    → (a : Opened) → OpenedAs (openedUnder sheet (take n written-out) (length table / 4)) a table after → ReturnedAs kind xs (take n written-out) after a
+    → (table after : List Block) → blockCount (length xs) ≤ length table → (sheet : ℕ) → 0 < sheet → sheet ≤ 2
+    → (a : Opened) → OpenedAs (openedUnder sheet (take n written-out) (length table)) a table after → ReturnedAs kind xs (take n written-out) after a
 typed-pass kind xs cs out written-out n each wrote table after enough sheet more known a opened-as =
     let vs = storedAs kind xs in
     let w = written-of (written vs cs (length out)) out written-out n wrote in
     let front : take n written-out ≡ w .0 = front-of out written-out (w .0) n (w .2) (w .3) (written-as vs cs (w .0) (length out) (w .1) .fits) in
     let g = returns-as kind xs cs (w .0) table (length out) each (w .1) enough in
     let both = passes-as kind xs cs (w .0) table (length out) each (w .1) enough (g .0) (g .1) in
-    let same : openedUnder sheet (take n written-out) (length table / 4) ≡ opened (take n written-out) (length table / 4) =
-    rw front (by-sheet sheet (w .0) (length table / 4) (g .0) (g .1) both more known) in
+    let same : openedUnder sheet (take n written-out) (length table) ≡ opened (take n written-out) (length table) =
+    rw front (by-sheet sheet (w .0) (length table) (g .0) (g .1) both more known) in
     typed-return kind xs cs out written-out n each wrote table after enough a (subst (λ (x : Outcome Loaded). OpenedAs x a table after) same opened-as)
 
 -- ---- .. by the typed answers
 
-module _ (xs s after : List ℕ) (c : Column) where
+module _ (xs s : List ℕ) (after : List Block) (c : Column) where
   pub signed-rows : ShowsAs I64 xs s after c → (r : ℕ) → r < length xs → (b : RowRead) → rowMeaning b ≡ rowAt c after s r
       → (t : SignedRead) → signedMeaning t ≡ readAs signedOf (rowMeaning b) → t ≡ SignedValue (signedBits (getD xs r 0))
   signed-rows g r h b e t f = signed-injective t (SignedValue (signedBits (getD xs r 0))) (f ∙ g .rows r h b e)
@@ -142,14 +143,14 @@ module _ (xs s after : List ℕ) (c : Column) where
 -- ---- looking up by values, in any column
 
 -- what `lookup` answers by a range of stored numbers that covers some values
-pub looked-by : (R : Reading) (low high : R .Value) (range : Range) → Covers R low high range → (c : Column) (table bytes : List ℕ) (first end : ℕ) (found list : List ℕ) (f : Found)
+pub looked-by : (R : Reading) (low high : R .Value) (range : Range) → Covers R low high range → (c : Column) (table : List Block) (bytes : List ℕ) (first end : ℕ) (found list : List ℕ) (f : Found)
     → FoundAs (lookedUp (rowAt c table bytes) (c .window .rows) (within (range .low) (range .high)) first end (length found)) f found list
     → FoundAs (lookedUp (rowAt c table bytes) (c .window .rows) (between R low high) first end (length found)) f found list
 looked-by R low high range covers c table bytes first end found list f =
     subst (λ (x : Outcome (List ℕ)). FoundAs x f found list)
     (sym (covered-lookup R low high range covers (rowAt c table bytes) (row-words c table bytes) (c .window .rows) first end (length found)))
 
-module _ (c : Column) (table bytes : List ℕ) (first end : ℕ) (found list : List ℕ) (f : Found) where
+module _ (c : Column) (table : List Block) (bytes : List ℕ) (first end : ℕ) (found list : List ℕ) (f : Found) where
   -- looking up a range
   abbrev FoundIn : Range → Type 0
   FoundIn range = FoundAs (lookedUp (rowAt c table bytes) (c .window .rows) (within (range .low) (range .high)) first end (length found)) f found list
@@ -171,7 +172,7 @@ module _ (c : Column) (table bytes : List ℕ) (first end : ℕ) (found list : L
 -- ---- demand 3
 
 -- of two byte strings that differ only inside the packed area, each opened by a call, a row of a window whose bits differ
-pub typed-tell : (s t table other after other-after : List ℕ) (c d : Column) (l m : Spelling) (o p : Loaded) → Opens s table after c l o → Opens t other other-after d m p → Alike s t o
+pub typed-tell : (s t : List ℕ) (table other after other-after : List Block) (c d : Column) (l m : Spelling) (o p : Loaded) → Opens s table after c l o → Opens t other other-after d m p → Alike s t o
     → (w : Window) → w .first + w .rows ≤ c .rows → (r : ℕ) → r < w .rows → (SameBits o s t (w .first + r) → ⊥)
     → (a b : RowRead) → rowMeaning a ≡ rowAt (windowed c w) after s r → rowMeaning b ≡ rowAt (windowed d w) other-after t r
     → TellAs r (rowMeaning a) (rowMeaning b)
