@@ -33,8 +33,8 @@
  * count of rows or a first row above 2^32 - 1, a Linear width above 255) are refused 13 before anything else; a window that leaves the
  * column is refused 13 when one of its rows is read, or when it is narrowed.
  *
- * The block table of a Blockwise column has four numbers for each 512 rows: slope, intercept, width in bits, and the block's first
- * byte, counted from the start of the packed area. The other codecs do not look at it.
+ * The block table of a Blockwise column has a record for each 512 rows, a struct hulemartob_block. Any records may be handed to reading.
+ * The other codecs do not look at the table.
  *
  *    number  refused because                                                                     value
  *     1      there are 2^32 values or more                                                       0
@@ -68,6 +68,14 @@
 extern "C" {
 #endif
 
+/* A block of a Blockwise column. */
+struct hulemartob_block {
+    uint64_t slope; /* of its line, with 32 bits after the point */
+    uint64_t intercept;
+    uint64_t width; /* of its packed numbers, in bits */
+    uint64_t start; /* its first byte, counted from the start of the packed area */
+};
+
 /* Statistics of a list: minimum, maximum, gcd of how far they lie from the first (1 where all are equal), rows. Refused 1. */
 void hulemartob_column_stats(const uint64_t *values, size_t values_len, uint64_t stats[4], uint64_t refusal[2]);
 
@@ -77,20 +85,20 @@ void hulemartob_column_stats(const uint64_t *values, size_t values_len, uint64_t
 size_t hulemartob_serialize(const uint64_t *values, size_t values_len, const uint8_t *codecs, size_t codecs_len, uint8_t *out,
                             size_t out_len, uint64_t refusal[2]);
 
-/* Opens the column that `bytes` hold: its twelve numbers are now in `column`, and its blocks, if it is Blockwise, the first numbers of
- * `table`; the rest of the table is unchanged. Bytes behind the column are accepted. Refused 5 to 11. A table of no numbers is enough
+/* Opens the column that `bytes` hold: its twelve numbers are now in `column`, and its blocks, if it is Blockwise, the first records of
+ * `table`; the rest of the table is unchanged. Bytes behind the column are accepted. Refused 5 to 11. A table of no records is enough
  * for Bitpacked and Linear, and else is refused 11 with the blocks needed.
  * Returns the offset of the first number, in the head, Linear's line or the blocks' fields, that is spelled in more bytes than it need be;
  * UINT64_MAX where all are spelled as short as can be, and on refusal. */
-uint64_t hulemartob_open(const uint8_t *bytes, size_t bytes_len, uint64_t *table, size_t table_len, uint64_t column[12],
+uint64_t hulemartob_open(const uint8_t *bytes, size_t bytes_len, struct hulemartob_block *table, size_t table_len, uint64_t column[12],
                          uint64_t refusal[2]);
 
 /* Opens the column that `bytes` hold under an acceptance sheet. Sheet 1 is hulemartob_open. Sheet 2 asks besides that every number is spelled as
  * short as can be, that every byte belongs to a part of the column, and that the bits which fill up the packed area's last byte are 0; what
  * hulemartob_serialize writes passes both. Refused 18 before everything, then 5 to 11, then 17 under sheet 2 with the lowest offset that offends, for
  * a spelling its first byte: the table is then as it was. Returns what hulemartob_open does. */
-uint64_t hulemartob_open_under(uint32_t sheet, const uint8_t *bytes, size_t bytes_len, uint64_t *table, size_t table_len, uint64_t column[12],
-                               uint64_t refusal[2]);
+uint64_t hulemartob_open_under(uint32_t sheet, const uint8_t *bytes, size_t bytes_len, struct hulemartob_block *table, size_t table_len,
+                               uint64_t column[12], uint64_t refusal[2]);
 
 /* Narrows a column's window to `count` rows from its row `first` on: numbers 10 and 11 of `column` are now the narrowed window's, counted from
  * the column's first row. Refused 12 if first + count is above the window's rows, then 13 if the window leaves the column, even for no
@@ -98,20 +106,20 @@ uint64_t hulemartob_open_under(uint32_t sheet, const uint8_t *bytes, size_t byte
 void hulemartob_narrow(uint64_t column[12], uint32_t first, uint32_t count, uint64_t refusal[2]);
 
 /* Reads a row of an opened column's window, with the table and the bytes of its opening. Returns the value, 0 on refusal. Refused 12 to 14. */
-uint64_t hulemartob_row(const uint64_t column[12], const uint64_t *table, size_t table_len, const uint8_t *bytes, size_t bytes_len,
-                        uint32_t row, uint64_t refusal[2]);
+uint64_t hulemartob_row(const uint64_t column[12], const struct hulemartob_block *table, size_t table_len, const uint8_t *bytes,
+                        size_t bytes_len, uint32_t row, uint64_t refusal[2]);
 
 /* Looks up the rows from `first` to below `end`, which is cut to the window's rows, whose value lies from `low` to `high`. They are now
  * the first entries of `found`, ascending; the rest of it is unchanged. Returns how many they are, 0 on refusal. The first row of the
  * run that hulemartob_row refuses decides (13, 14), whatever the range is; then 15. */
-size_t hulemartob_lookup(const uint64_t column[12], const uint64_t *table, size_t table_len, const uint8_t *bytes, size_t bytes_len,
-                         uint64_t low, uint64_t high, uint32_t first, uint32_t end, uint32_t *found, size_t found_len,
+size_t hulemartob_lookup(const uint64_t column[12], const struct hulemartob_block *table, size_t table_len, const uint8_t *bytes,
+                         size_t bytes_len, uint64_t low, uint64_t high, uint32_t first, uint32_t end, uint32_t *found, size_t found_len,
                          uint64_t refusal[2]);
 
 /* Decodes the rows from `first` on, as many as `out` has entries, into `out`. Returns how many they are, 0 on refusal, which leaves `out` as it
  * was. Refused 12 before all else if the run leaves the rows; then the first row of it that hulemartob_row refuses decides (13, 14). */
-size_t hulemartob_run(const uint64_t column[12], const uint64_t *table, size_t table_len, const uint8_t *bytes, size_t bytes_len,
-                      uint32_t first, uint64_t *out, size_t out_len, uint64_t refusal[2]);
+size_t hulemartob_run(const uint64_t column[12], const struct hulemartob_block *table, size_t table_len, const uint8_t *bytes,
+                      size_t bytes_len, uint32_t first, uint64_t *out, size_t out_len, uint64_t refusal[2]);
 
 /* ---- recorded lookups
  *
@@ -124,8 +132,8 @@ size_t hulemartob_run(const uint64_t column[12], const uint64_t *table, size_t t
  * row of is such a one. `report` is now the index of that record, UINT64_MAX where all agree, and how many were run, the differing one
  * included. Refused 19, before any lookup, where a header or region leaves the recording, a region begins inside the header, a record's
  * place plus how many is above the list's length, or regions overlap. A refusal leaves `report` as it was. */
-void hulemartob_replay(const uint64_t column[12], const uint64_t *table, size_t table_len, const uint8_t *bytes, size_t bytes_len,
-                       const uint8_t *recording, size_t recording_len, uint64_t report[2], uint64_t refusal[2]);
+void hulemartob_replay(const uint64_t column[12], const struct hulemartob_block *table, size_t table_len, const uint8_t *bytes,
+                       size_t bytes_len, const uint8_t *recording, size_t recording_len, uint64_t report[2], uint64_t refusal[2]);
 
 /* ---- what each byte is
  *
@@ -135,12 +143,13 @@ void hulemartob_replay(const uint64_t column[12], const uint64_t *table, size_t 
 
 /* `part` is now the part that holds the byte at `offset`. Refused 13 where that lies past the bytes, or the numbers are no column of them. A refusal leaves
  * `part` as it was. */
-void hulemartob_part_at(const uint64_t column[12], const uint8_t *bytes, size_t bytes_len, size_t offset, uint64_t part[5], uint64_t refusal[2]);
+void hulemartob_part_at(const uint64_t column[12], const uint8_t *bytes, size_t bytes_len, size_t offset, uint64_t part[5],
+                        uint64_t refusal[2]);
 
 /* `rows` is now the first of the rows that own a bit of the byte at `offset`, and the one behind the last; both 0 where none does. They are rows of the
  * whole column, whatever its window. Refused 13 as hulemartob_part_at. A refusal leaves `rows` as it was. */
-void hulemartob_rows_at(const uint64_t column[12], const uint64_t *table, size_t table_len, const uint8_t *bytes, size_t bytes_len, size_t offset,
-                        uint64_t rows[2], uint64_t refusal[2]);
+void hulemartob_rows_at(const uint64_t column[12], const struct hulemartob_block *table, size_t table_len, const uint8_t *bytes,
+                        size_t bytes_len, size_t offset, uint64_t rows[2], uint64_t refusal[2]);
 
 /* ---- columns of signed numbers, dates, bools and floats
  *
@@ -203,10 +212,10 @@ void hulemartob_f64_range(uint64_t low, uint64_t high, uint64_t range[2]);
 
 /* Opens the column that `bytes` hold under an acceptance sheet and checks it against a list of values of a kind, by the numbers that these are stored
  * as. `verdict` is now HULEMARTOB_PASSED, or the first reason why not, tested in the order of the table. A column that does not open is a
- * verdict and no refusal: refused 13 alone, where the number is no kind. Once the column is opened, its blocks are the first numbers of
+ * verdict and no refusal: refused 13 alone, where the number is no kind. Once the column is opened, its blocks are the first records of
  * `table`, whatever the verdict; the rest of the table is unchanged. */
 void hulemartob_check(uint32_t kind, uint32_t sheet, const uint8_t *bytes, size_t bytes_len, const uint64_t *values, size_t values_len,
-                      uint64_t *table, size_t table_len, uint64_t verdict[3], uint64_t refusal[2]);
+                      struct hulemartob_block *table, size_t table_len, uint64_t verdict[3], uint64_t refusal[2]);
 
 /* The same with C's types. These few lines are C: what they call is proved, they are not. Results and refusals are those of the function
  * that they are named after; a row's value is 0, or false, on refusal.
@@ -237,54 +246,54 @@ static inline double hulemartob_f64_of(uint64_t stored) {
     return value;
 }
 
-static inline int64_t hulemartob_row_i64(const uint64_t column[12], const uint64_t *table, size_t table_len, const uint8_t *bytes,
-                                         size_t bytes_len, uint32_t row, uint64_t refusal[2]) {
+static inline int64_t hulemartob_row_i64(const uint64_t column[12], const struct hulemartob_block *table, size_t table_len,
+                                         const uint8_t *bytes, size_t bytes_len, uint32_t row, uint64_t refusal[2]) {
     uint64_t stored = hulemartob_row(column, table, table_len, bytes, bytes_len, row, refusal);
     return refusal[0] ? 0 : hulemartob_i64_of(stored);
 }
 
-static inline int64_t hulemartob_row_date(const uint64_t column[12], const uint64_t *table, size_t table_len, const uint8_t *bytes,
-                                          size_t bytes_len, uint32_t row, uint64_t refusal[2]) {
+static inline int64_t hulemartob_row_date(const uint64_t column[12], const struct hulemartob_block *table, size_t table_len,
+                                          const uint8_t *bytes, size_t bytes_len, uint32_t row, uint64_t refusal[2]) {
     return hulemartob_row_i64(column, table, table_len, bytes, bytes_len, row, refusal);
 }
 
-static inline bool hulemartob_row_bool(const uint64_t column[12], const uint64_t *table, size_t table_len, const uint8_t *bytes,
-                                       size_t bytes_len, uint32_t row, uint64_t refusal[2]) {
+static inline bool hulemartob_row_bool(const uint64_t column[12], const struct hulemartob_block *table, size_t table_len,
+                                       const uint8_t *bytes, size_t bytes_len, uint32_t row, uint64_t refusal[2]) {
     return hulemartob_bool_of(hulemartob_row(column, table, table_len, bytes, bytes_len, row, refusal));
 }
 
-static inline double hulemartob_row_f64(const uint64_t column[12], const uint64_t *table, size_t table_len, const uint8_t *bytes,
-                                        size_t bytes_len, uint32_t row, uint64_t refusal[2]) {
+static inline double hulemartob_row_f64(const uint64_t column[12], const struct hulemartob_block *table, size_t table_len,
+                                        const uint8_t *bytes, size_t bytes_len, uint32_t row, uint64_t refusal[2]) {
     uint64_t stored = hulemartob_row(column, table, table_len, bytes, bytes_len, row, refusal);
     return refusal[0] ? 0.0 : hulemartob_f64_of(stored);
 }
 
-static inline size_t hulemartob_lookup_i64(const uint64_t column[12], const uint64_t *table, size_t table_len, const uint8_t *bytes,
-                                           size_t bytes_len, int64_t low, int64_t high, uint32_t first, uint32_t end, uint32_t *found,
-                                           size_t found_len, uint64_t refusal[2]) {
+static inline size_t hulemartob_lookup_i64(const uint64_t column[12], const struct hulemartob_block *table, size_t table_len,
+                                           const uint8_t *bytes, size_t bytes_len, int64_t low, int64_t high, uint32_t first, uint32_t end,
+                                           uint32_t *found, size_t found_len, uint64_t refusal[2]) {
     uint64_t range[2];
     hulemartob_i64_range(low, high, range);
     return hulemartob_lookup(column, table, table_len, bytes, bytes_len, range[0], range[1], first, end, found, found_len, refusal);
 }
 
-static inline size_t hulemartob_lookup_date(const uint64_t column[12], const uint64_t *table, size_t table_len, const uint8_t *bytes,
-                                            size_t bytes_len, int64_t low, int64_t high, uint32_t first, uint32_t end, uint32_t *found,
-                                            size_t found_len, uint64_t refusal[2]) {
+static inline size_t hulemartob_lookup_date(const uint64_t column[12], const struct hulemartob_block *table, size_t table_len,
+                                            const uint8_t *bytes, size_t bytes_len, int64_t low, int64_t high, uint32_t first, uint32_t end,
+                                            uint32_t *found, size_t found_len, uint64_t refusal[2]) {
     return hulemartob_lookup_i64(column, table, table_len, bytes, bytes_len, low, high, first, end, found, found_len, refusal);
 }
 
-static inline size_t hulemartob_lookup_bool(const uint64_t column[12], const uint64_t *table, size_t table_len, const uint8_t *bytes,
-                                            size_t bytes_len, bool low, bool high, uint32_t first, uint32_t end, uint32_t *found,
-                                            size_t found_len, uint64_t refusal[2]) {
+static inline size_t hulemartob_lookup_bool(const uint64_t column[12], const struct hulemartob_block *table, size_t table_len,
+                                            const uint8_t *bytes, size_t bytes_len, bool low, bool high, uint32_t first, uint32_t end,
+                                            uint32_t *found, size_t found_len, uint64_t refusal[2]) {
     uint64_t range[2];
     hulemartob_bool_range(low, high, range);
     return hulemartob_lookup(column, table, table_len, bytes, bytes_len, range[0], range[1], first, end, found, found_len, refusal);
 }
 
 /* By the stored numbers: from +0.0 to +0.0 no -0.0 is found, and bounds may be NaNs. */
-static inline size_t hulemartob_lookup_f64(const uint64_t column[12], const uint64_t *table, size_t table_len, const uint8_t *bytes,
-                                           size_t bytes_len, double low, double high, uint32_t first, uint32_t end, uint32_t *found,
-                                           size_t found_len, uint64_t refusal[2]) {
+static inline size_t hulemartob_lookup_f64(const uint64_t column[12], const struct hulemartob_block *table, size_t table_len,
+                                           const uint8_t *bytes, size_t bytes_len, double low, double high, uint32_t first, uint32_t end,
+                                           uint32_t *found, size_t found_len, uint64_t refusal[2]) {
     uint64_t bounds[2], range[2];
     memcpy(&bounds[0], &low, sizeof low);
     memcpy(&bounds[1], &high, sizeof high);
@@ -293,15 +302,17 @@ static inline size_t hulemartob_lookup_f64(const uint64_t column[12], const uint
 }
 
 /* Runs: decoded in place, then read. (Bools take less room than words: decode words, and read each by hulemartob_bool_of.) */
-static inline size_t hulemartob_run_i64(const uint64_t column[12], const uint64_t *table, size_t table_len, const uint8_t *bytes,
-                                        size_t bytes_len, uint32_t first, int64_t *out, size_t out_len, uint64_t refusal[2]) {
+static inline size_t hulemartob_run_i64(const uint64_t column[12], const struct hulemartob_block *table, size_t table_len,
+                                        const uint8_t *bytes, size_t bytes_len, uint32_t first, int64_t *out, size_t out_len,
+                                        uint64_t refusal[2]) {
     size_t many = hulemartob_run(column, table, table_len, bytes, bytes_len, first, (uint64_t *)out, out_len, refusal);
     for (size_t i = 0; i < many; i++) out[i] = hulemartob_i64_of((uint64_t)out[i]);
     return many;
 }
 
-static inline size_t hulemartob_run_f64(const uint64_t column[12], const uint64_t *table, size_t table_len, const uint8_t *bytes,
-                                        size_t bytes_len, uint32_t first, double *out, size_t out_len, uint64_t refusal[2]) {
+static inline size_t hulemartob_run_f64(const uint64_t column[12], const struct hulemartob_block *table, size_t table_len,
+                                        const uint8_t *bytes, size_t bytes_len, uint32_t first, double *out, size_t out_len,
+                                        uint64_t refusal[2]) {
     size_t many = hulemartob_run(column, table, table_len, bytes, bytes_len, first, (uint64_t *)(void *)out, out_len, refusal);
     for (size_t i = 0; i < many; i++) {
         uint64_t word;

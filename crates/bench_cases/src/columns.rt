@@ -1,4 +1,5 @@
 // The records OPEN, UNDER, MADE, RUN and NARROW: a column that is opened or put together, and then asked. Each function is told the record's place and its end.
+use format::Block;
 use format::Column;
 use format::Opened;
 use format::Refusal;
@@ -10,20 +11,18 @@ use stored::answers::refused;
 use stored::column::column_at;
 use stored::column::column_stored;
 use stored::column::seen_whole;
-use stored::lent::NUMBER;
-use stored::lent::numbers_kept;
 use stored::lent::numbers_stored;
 use stored::words::after;
 use stored::words::bytes_at;
 use stored::words::count_at;
 use stored::words::half_at;
-use stored::words::take_words;
 use stored::words::word_at;
 use stored::words::words_for;
 use stored_questions::ask;
-
-// The longest table that is lent.
-const TABLE: usize = 64;
+use stored_tables::BLOCKS;
+use stored_tables::blocks::blocks_at;
+use stored_tables::blocks::blocks_stored;
+use stored_tables::blocks::marks;
 
 // The place of the column's bytes, behind the table.
 fn bytes_place(file: &[u8], at: usize) -> usize {
@@ -44,9 +43,9 @@ fn asked_place(file: &[u8], at: usize) -> usize {
 }
 
 // Whether the table is what the record has of it, and as it was behind that.
-fn table_stored(table: &[u64], file: &[u8], at: usize) -> bool {
+fn table_stored(table: [Block; BLOCKS], file: &[u8], at: usize) -> bool {
     let count = count_at(file, after(at, 14));
-    numbers_stored(table, count, file, after(at, 18)) && numbers_kept(table, count)
+    blocks_stored(table, count / 4, file, after(at, 18))
 }
 
 // Whether the record has no column: its numbers, the length of its table and how much it asks are 0.
@@ -59,7 +58,7 @@ fn nothing_stored(file: &[u8], at: usize) -> bool {
 fn opening_stored(
     column: Column,
     spelling: Spelling,
-    table: &[u64],
+    table: [Block; BLOCKS],
     file: &[u8],
     at: usize,
 ) -> bool {
@@ -70,26 +69,30 @@ fn opening_stored(
 }
 
 // Whether a refusal is the record's, and the table was kept.
-fn refusal_stored(why: Refusal, table: &[u64], file: &[u8], at: usize) -> bool {
-    refused(why).is_stored(file, after(at, 2)) && nothing_stored(file, at) && numbers_kept(table, 0)
+fn refusal_stored(why: Refusal, table: [Block; BLOCKS], file: &[u8], at: usize) -> bool {
+    refused(why).is_stored(file, after(at, 2))
+        && nothing_stored(file, at)
+        && blocks_stored(table, 0, file, at)
 }
 
-// Opens the bytes under a sheet into a table of marks, and asks the column.
+// Opens the bytes under a sheet into so many blocks of a table of marks, and asks the column.
 fn opened_alike(
     sheet: u32,
     bytes: &[u8],
-    table: &mut [u64],
+    room: usize,
     file: &[u8],
     at: usize,
     end: usize,
 ) -> Outcome {
     let from = asked_place(file, at);
-    match u64_based::open_under(sheet, bytes, table) {
+    let marks = marks();
+    let table = stored_tables::filled(sheet, bytes, marks, room);
+    match stored_tables::opened(sheet, bytes, marks, room) {
         Opened::Column(column, spelling) => {
             if !opening_stored(column, spelling, table, file, at) {
                 return nothing_asked(false);
             }
-            ask(column, table, bytes, file, at, from, end)
+            ask(column, table, room, bytes, file, at, from, end)
         }
         Opened::Refused(why) => {
             nothing_asked(from == end && refusal_stored(why, table, file, at))
@@ -97,30 +100,13 @@ fn opened_alike(
     }
 }
 
-// Asks the column of the record's own numbers.
-fn made_alike(bytes: &[u8], table: &mut [u64], file: &[u8], at: usize, end: usize) -> Outcome {
-    let column = column_at(file, at);
-    if !column_stored(column, file, at) {
+// A column that is opened under a sheet, with a table that the file counts the numbers of, four a block.
+fn opened_in(sheet: u32, numbers: usize, file: &[u8], at: usize, end: usize) -> Outcome {
+    let room = numbers / 4;
+    if BLOCKS < room {
         return nothing_asked(false);
     }
-    take_words(file, after(at, 18), table);
-    ask(column, table, bytes, file, at, asked_place(file, at), end)
-}
-
-// A column that is opened under a sheet, with a table of so many numbers.
-fn opened_in(sheet: u32, room: usize, file: &[u8], at: usize, end: usize) -> Outcome {
-    if TABLE < room {
-        return nothing_asked(false);
-    }
-    let mut table = [NUMBER; TABLE];
-    opened_alike(
-        sheet,
-        column_bytes(file, at),
-        &mut table[..room],
-        file,
-        at,
-        end,
-    )
+    opened_alike(sheet, column_bytes(file, at), room, file, at, end)
 }
 
 // A record OPEN.
@@ -135,12 +121,25 @@ pub(crate) fn under(file: &[u8], at: usize, end: usize) -> Outcome {
     opened_in(sheet, room, file, at, end)
 }
 
-// A record MADE, RUN or NARROW. Its table is as long as it is filled.
+// A record MADE, RUN or NARROW: the column of the record's own numbers is asked. Its table is as long as it is filled.
 pub(crate) fn made(file: &[u8], at: usize, end: usize) -> Outcome {
-    let room = count_at(file, after(at, 14));
-    if TABLE < room {
+    let room = count_at(file, after(at, 14)) / 4;
+    if BLOCKS < room {
         return nothing_asked(false);
     }
-    let mut table = [NUMBER; TABLE];
-    made_alike(column_bytes(file, at), &mut table[..room], file, at, end)
+    let column = column_at(file, at);
+    if !column_stored(column, file, at) {
+        return nothing_asked(false);
+    }
+    let table = blocks_at(file, after(at, 18), room);
+    ask(
+        column,
+        table,
+        room,
+        column_bytes(file, at),
+        file,
+        at,
+        asked_place(file, at),
+        end,
+    )
 }

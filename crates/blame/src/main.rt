@@ -2,27 +2,21 @@
 // library's, `blaming`; this program moves bytes.
 ghost use Prim.Native.Nat.{_≤_};
 ghost use lib.ListN.{length};
+ghost use Rattle.text.specs.Own.{Opens};
 ghost use Rattle.blaming.specs.Bytes.{blameMax};
 use blaming::Begun;
 use format::Column;
 use libc::STDOUT_FILENO;
 
-// Writes the text of all offsets, a bufferful at a time, and says whether every write went through.
-// Internal: the buffer has room for a longest text, so that each turn looks at an offset at least.
-fn write_bytes(
-    left: Column,
-    ltable: &[u64; 8192],
-    lbytes: &[u8],
-    right: Column,
-    rtable: &[u64; 8192],
-    rbytes: &[u8],
-    out: &mut [u8],
-) -> bool
+// Internal: asks for two columns, each opened of its bytes, and for a buffer that has room for a longest text, so that each turn looks at an offset at least. Writes the text of all
+// offsets, a bufferful at a time, and says whether every write went through.
+fn write_bytes(left: Column, lbytes: &[u8], right: Column, rbytes: &[u8], out: &mut [u8]) -> bool
+    requires { ⌜ Opens (now lbytes) left × Opens (now rbytes) right ⌝ }
     requires { ⌜ blameMax ≤ length (now out) ⌝ }
 {
     let mut from = 0;
     while from < lbytes.len() {
-        let took = blaming::fill_lines(left, ltable, lbytes, right, rtable, rbytes, from, out);
+        let took = blaming::fill_lines(left, lbytes, right, rbytes, from, out);
         let n = took.bytes;
         if !io::write_all(STDOUT_FILENO, &out[..n]) {
             return false;
@@ -34,19 +28,17 @@ fn write_bytes(
 
 // Writes the blame of some bytes and others, until a write fails.
 fn write_blame(left: &[u8], right: &[u8]) {
-    let mut ltable = [0u64; 8192];
-    let mut rtable = [0u64; 8192];
     let mut line = [0u8; 128];
-    match blaming::begin(left, &mut ltable, right, &mut rtable, &mut line) {
+    match blaming::begin(left, right, &mut line) {
         Begun::Line(n) => {
             io::write_all(STDOUT_FILENO, &line[..n]);
         }
         Begun::Columns(column, against) => {
             let mut out = io::large_buffer();
-            if !write_bytes(column, &ltable, left, against, &rtable, right, &mut out) {
+            if !write_bytes(column, left, against, right, &mut out) {
                 return;
             }
-            let end = blaming::end_line(column, &ltable, left, right, &mut line);
+            let end = blaming::end_line(column, left, right, &mut line);
             io::write_all(STDOUT_FILENO, &line[..end]);
         }
     }

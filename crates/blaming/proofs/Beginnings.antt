@@ -1,12 +1,15 @@
--- How a blame begins, from what both openings found, the line that was written and the tables that were filled.
---     column-found, refused-found              what opening found, from its answer
---     begun-only, begun-both                   with the only line; with both columns
+-- How a blame begins, from what both openings found and the line that was written.
+--     column-found, refused-found      what opening found, from its answer
+--     begun-only, begun-both           with the only line; with both columns
+--     begun-opens                      those are columns that were opened of their bytes
 -- Assumes nothing.
 use Prim.Native.Nat.{ℕ}
 use mathlib.Core.Path.{_≡_, refl, sym, ap, _∙_}
+use mathlib.Core.Bool.{Bool, true, false}
 use mathlib.Core.List.{List}
 use native.Mathlib.Nat.{zero-add}
 use native.Mathlib.Omega.{arith}
+use lib.Dec.{eqb}
 use lib.ListN.{length}
 use Rattle.io.specs.Counts.{Counts}
 use Rattle.format.specs.declared.Column.{Column}
@@ -14,49 +17,63 @@ use Rattle.format.specs.declared.Opened.{Opened}
 use Rattle.format.specs.declared.Opened.the-variants.{Column as OpenedColumn, Refused}
 use Rattle.format.specs.declared.Refusal.{Refusal}
 use Rattle.format.specs.declared.Spelling.{Spelling}
-use Rattle.format.specs.Opening.{Loaded, columnIn, tableIn}
-use Rattle.format.specs.Outcome.{Outcome, Outcome.value, Outcome.refusal, stored, Wrote}
+use Rattle.format.specs.Listing.{openedHere}
+use Rattle.format.specs.Opening.{Loaded, columnIn}
+use Rattle.format.specs.Outcome.{Outcome, Outcome.value, Outcome.refusal, pick, Wrote}
 use Rattle.format.specs.Refusals.{openedMeaning}
 use Rattle.format.proofs.Outcomes.{not-value, value-same}
+use Rattle.explaining.specs.Bytes.{partOf}
+use Rattle.text.specs.Own.{Opens}
 use Rattle.text.specs.Refused.{refusedBy}
 use Rattle.text.proofs.Texts.{counts}
 use Rattle.blaming.specs.declared.Begun.the-variants.{Columns, Line}
-use Rattle.blaming.specs.Beginning.{Start, Start.both, Start.only, BegunAs}
+use Rattle.bytewise.specs.declared.fields.Field.{Field}
+use Rattle.bytewise.specs.declared.fields.Field.the-variants.{At, Nothing}
+use Rattle.bytewise.specs.Fields.{firstField}
+use Rattle.blaming.specs.Bytes.{lengthsLine}
+use Rattle.blaming.specs.Beginning.{Start, Start.both, Start.only, startsWith, starts, begun, BegunAs}
 
--- an answer with a column: that of what was opened
-pub record Opens (o : Outcome Loaded) (c : Column) : Type 0 where
-  pub loaded : Loaded
-  pub is : o ≡ value loaded
-  pub column : loaded .column ≡ c
-
-pub column-found : (o : Outcome Loaded) {r : Opened} {c : Column} {a : Spelling} → openedMeaning r ≡ columnIn o → r ≡ OpenedColumn c a → Opens o c
-column-found (refusal number also) means is = absurd (not-value (sym means ∙ ap openedMeaning is))
-column-found (value u) means is =
-    record { loaded = u; is = refl; column = sym (ap (λ (a : Column × Spelling). a .0) (value-same (sym (ap openedMeaning is) ∙ means))) }
+pub column-found : (s : List ℕ) {r : Opened} {c : Column} {a : Spelling} → openedMeaning r ≡ columnIn (openedHere s) → r ≡ OpenedColumn c a → Opens s c
+column-found s {r} {c} {a} means is = go (openedHere s) refl (sym (ap openedMeaning is) ∙ means)
+  where
+    go : (o : Outcome Loaded) → openedHere s ≡ o → openedMeaning (OpenedColumn c a) ≡ columnIn o → Opens s c
+    go (refusal number also) found e = absurd (not-value (sym e))
+    go (value u) found e = record { found = u; opened = found; column = sym (ap (λ (b : Column × Spelling). b .0) (value-same e)) }
 
 -- an answer with a refusal: by its number
-pub record Refuses (o : Outcome Loaded) (number : ℕ) : Type 0 where
+pub record Refuses (s : List ℕ) (number : ℕ) : Type 0 where
   pub also : List ℕ
-  pub is : o ≡ refusal number also
+  pub is : openedHere s ≡ refusal number also
 
-pub refused-found : (o : Outcome Loaded) {r : Opened} {x : Refusal} {number : ℕ} → openedMeaning r ≡ columnIn o → r ≡ Refused x → number ≡ refusedBy (openedMeaning r) → Refuses o number
-refused-found (value u) means is by = absurd (not-value (sym (ap openedMeaning is) ∙ means))
-refused-found (refusal n more) {number = number} means is by =
-    let same : n ≡ number = sym (by ∙ ap refusedBy means) in
-    record { also = more; is = ap (λ (k : ℕ). refusal k more) same }
+pub refused-found : (s : List ℕ) {r : Opened} {x : Refusal} {number : ℕ} → openedMeaning r ≡ columnIn (openedHere s) → r ≡ Refused x → number ≡ refusedBy (openedMeaning r) → Refuses s number
+refused-found s {r} {x} {number} means is by = go (openedHere s) refl means
+  where
+    go : (o : Outcome Loaded) → openedHere s ≡ o → openedMeaning r ≡ columnIn o → Refuses s number
+    go (value u) found e = absurd (not-value (sym (ap openedMeaning is) ∙ e))
+    go (refusal n more) found e =
+        let same : n ≡ number = sym (by ∙ ap refusedBy e) in
+        record { also = more; is = found ∙ ap (λ (k : ℕ). refusal k more) same }
 
-pub begun-only : {b : Start} {l ltable rtable old new : List ℕ} {n : ℕ} → b ≡ only l → Wrote old 0 l new n → Counts n new → BegunAs b (Line n) ltable ltable rtable rtable old new
-begun-only {b} {l} {ltable} {rtable} {old} {new} {n} is wrote shown =
+pub begun-only : {b : Start} {l old new : List ℕ} {n : ℕ} → b ≡ only l → Wrote old 0 l new n → Counts n new → BegunAs b (Line n) old new
+begun-only {b} {l} {old} {new} {n} is wrote shown =
     let long : n ≡ length l = wrote .ends ∙ zero-add _ in
-    rw is (record { answer = ap Line long; left-table = refl; right-table = refl; line = wrote .list; counts = shown })
+    rw is (record { answer = ap Line long; line = wrote .list; counts = shown })
 
-pub begun-both : {b : Start} {o p : Outcome Loaded} {c d : Column} {ltable ltable′ rtable rtable′ old : List ℕ} (u : Opens o c) (w : Opens p d) → b ≡ both (u .loaded) (w .loaded)
-    → ltable′ ≡ stored (tableIn o) ltable → rtable′ ≡ stored (tableIn p) rtable → BegunAs b (Columns c d) ltable ltable′ rtable rtable′ old old
-begun-both {b} {o} {p} {c} {d} {ltable} {ltable′} {rtable} {rtable′} {old} u w is left right =
-    rw is (record {
-      answer = λ i. Columns (sym (u .column) i) (sym (w .column) i);
-      left-table = left ∙ ap (λ (x : Outcome Loaded). stored (tableIn x) ltable) (u .is);
-      right-table = right ∙ ap (λ (x : Outcome Loaded). stored (tableIn x) rtable) (w .is);
-      line = refl;
-      counts = counts 0 old (omega arith);
-    })
+pub begun-both : {b : Start} {c d : Column} {old : List ℕ} → b ≡ both c d → BegunAs b (Columns c d) old old
+begun-both {b} {c} {d} {old} is = rw is (record { answer = refl; line = refl; counts = counts 0 old (omega arith) })
+
+-- the columns that it begins with
+pub begun-opens : {s t : List ℕ} {c d : Column} {old new : List ℕ} → BegunAs (starts (openedHere s) (openedHere t) s t) (Columns c d) old new → Opens s c × Opens t d
+begun-opens {s} {t} {c} {d} f = go (openedHere s) (openedHere t) refl refl (f .answer)
+  where
+    by-test : (u w : Column) (b : Bool) (field : Field) (l : List ℕ) → Columns c d ≡ begun (pick b (startsWith u w field) (only l)) → (u ≡ c) × (w ≡ d)
+    by-test u w true Nothing l e = (cc, cc)
+    by-test u w true (At i name) l e = absurd (let z : _≡_ {A = ℕ} 0 1 = cc in omega arith)
+    by-test u w false field l e = absurd (let z : _≡_ {A = ℕ} 0 1 = cc in omega arith)
+
+    go : (o p : Outcome Loaded) → openedHere s ≡ o → openedHere t ≡ p → Columns c d ≡ begun (starts o p s t) → Opens s c × Opens t d
+    go (value u) (value w) e f is =
+        let same = by-test (u .column) (w .column) (eqb (length s) (length t)) (firstField (partOf s (u .column)) s t 0 (length s)) (lengthsLine (length s) (length t)) is in
+        (record { found = u; opened = e; column = same .0 }, record { found = w; opened = f; column = same .1 })
+    go (value u) (refusal number also) e f is = absurd (let z : _≡_ {A = ℕ} 0 1 = cc in omega arith)
+    go (refusal number also) p e f is = absurd (let z : _≡_ {A = ℕ} 0 1 = cc in omega arith)

@@ -17,7 +17,9 @@ use Rattle.format.specs.Listing.{decimalIn, decimal, named, namedLine, rowTexts
 use Rattle.format.proofs.Cases.{p9, p10}
 use Rattle.explaining.specs.Bytes.{partOf, rowsOf}
 use Rattle.explanation.proofs.ExplainCases.{text}
-use Rattle.blaming.specs.Bytes.{firstField, lengthsLine, fieldLine, byteLine, bothLine, textAt, tallyFrom}
+use Rattle.bytewise.specs.Fields.{firstField}
+use Rattle.bytewise.specs.Tallies.{tallyFrom}
+use Rattle.blaming.specs.Bytes.{lengthsLine, fieldLine, byteLine, bothLine, textAt}
 use Rattle.blaming.specs.Beginning.{blame}
 
 -- four rows of five bits, by the first two bytes of the area, with a byte behind it

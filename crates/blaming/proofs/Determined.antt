@@ -12,28 +12,27 @@ use Rattle.text.specs.Chunk.{chunk}
 use Rattle.blaming.specs.declared.Begun.{Begun}
 use Rattle.blaming.specs.declared.Looked.{Looked}
 use Rattle.blaming.specs.Beginning.{Start, BegunAs}
-use Rattle.blaming.specs.Bytes.{blameMax, textAt, ownersFound, tallied, endLine}
+use Rattle.bytewise.specs.Owners.{ownersFound}
+use Rattle.bytewise.specs.Tallies.{tallied}
+use Rattle.blaming.specs.Bytes.{blameMax, textAt, endLine}
 use Rattle.blaming.specs.Chunk.{lookedIn}
 
--- two answers of `begin`, and what the lent tables and the line hold afterwards
-pub begin-determined : (start : Start) (ltable rtable line : List ℕ) (a b : Begun) (left left′ right right′ new new′ : List ℕ)
-    → BegunAs start a ltable left rtable right line new → BegunAs start b ltable left′ rtable right′ line new′
-    → (a ≡ b) × (left ≡ left′) × (right ≡ right′) × (new ≡ new′)
-begin-determined start ltable rtable line a b left left′ right right′ new new′ p q =
-    (p .answer ∙ sym (q .answer), p .left-table ∙ sym (q .left-table), p .right-table ∙ sym (q .right-table), p .line ∙ sym (q .line))
+-- two answers of `begin`, and what the lent line holds afterwards
+pub begin-determined : (start : Start) (line : List ℕ) (a b : Begun) (new new′ : List ℕ) → BegunAs start a line new → BegunAs start b line new′ → (a ≡ b) × (new ≡ new′)
+begin-determined start line a b new new′ p q = (p .answer ∙ sym (q .answer), p .line ∙ sym (q .line))
 
 -- two answers of `fill_lines`, and what the lent buffer holds afterwards
-module _ (left : Column) (ltable lbytes : List ℕ) (right : Column) (rtable rbytes : List ℕ) (from : ℕ) (out : List ℕ) where
+module _ (left : Column) (lbytes : List ℕ) (right : Column) (rbytes : List ℕ) (from : ℕ) (out : List ℕ) where
   abbrev answer : Looked
-  answer = lookedIn (textAt left ltable lbytes right rtable rbytes) (length lbytes) (length out) from
+  answer = lookedIn (textAt left lbytes right rbytes) (length lbytes) (length out) from
 
   abbrev written : List ℕ
-  written = sets out 0 (chunk (textAt left ltable lbytes right rtable rbytes) blameMax (length lbytes) (length out) from)
+  written = sets out 0 (chunk (textAt left lbytes right rbytes) blameMax (length lbytes) (length out) from)
 
   pub fill-lines-determined : (a b : Looked) (new new′ : List ℕ) → a ≡ answer → b ≡ answer → new ≡ written → new′ ≡ written → (a ≡ b) × (new ≡ new′)
   fill-lines-determined a b new new′ p q n m = (p ∙ sym q, n ∙ sym m)
 
 -- two answers of `end_line`, and what the lent line holds afterwards
-pub end-line-determined : (column : Column) (table s t line : List ℕ) (a b : ℕ) (new new′ : List ℕ)
-    → Wrote line 0 (endLine (tallied (ownersFound column table s) s t)) new a → Wrote line 0 (endLine (tallied (ownersFound column table s) s t)) new′ b → (a ≡ b) × (new ≡ new′)
-end-line-determined column table s t line a b new new′ p q = (p .ends ∙ sym (q .ends), p .list ∙ sym (q .list))
+pub end-line-determined : (column : Column) (s t line : List ℕ) (a b : ℕ) (new new′ : List ℕ)
+    → Wrote line 0 (endLine (tallied (ownersFound column s) s t)) new a → Wrote line 0 (endLine (tallied (ownersFound column s) s t)) new′ b → (a ≡ b) × (new ≡ new′)
+end-line-determined column s t line a b new new′ p q = (p .ends ∙ sym (q .ends), p .list ∙ sym (q .list))

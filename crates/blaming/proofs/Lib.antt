@@ -2,12 +2,8 @@
 
 -- how a blame begins
 pub mod Beginnings
-pub mod FirstField
--- the rows of a byte, and counting
-pub mod FewRows
+-- the text of an offset
 pub mod RowTexts
-pub mod Tallies
--- by the tests
 pub mod Offsets
 -- what the calls come to
 pub mod Blames

@@ -7,43 +7,47 @@ use lib.Dec.{eqb}
 use lib.ListN.{length}
 use lib.Seq.{sets}
 use Rattle.io.specs.Counts.{Counts}
+use Rattle.format.specs.declared.Column.{Column}
 use Rattle.format.specs.Listing.{ascii, namedLine, rowTexts, openedHere}
 use Rattle.format.specs.Opening.{Loaded}
 use Rattle.format.specs.Outcome.{Outcome, Outcome.value, Outcome.refusal, pick}
 use Rattle.explaining.specs.Bytes.{partOf}
 use Rattle.blaming.specs.declared.Begun.{Begun}
 use Rattle.blaming.specs.declared.Begun.the-variants.{Columns, Line}
-use Rattle.blaming.specs.declared.fields.Field.{Field}
-use Rattle.blaming.specs.declared.fields.Field.the-variants.{At, Nothing}
-use Rattle.blaming.specs.Bytes.{firstField, lengthsLine, fieldLine, textAt, ownersFound, tallied, endLine}
+use Rattle.bytewise.specs.declared.fields.Field.{Field}
+use Rattle.bytewise.specs.declared.fields.Field.the-variants.{At, Nothing}
+use Rattle.bytewise.specs.Fields.{firstField}
+use Rattle.bytewise.specs.Owners.{ownersFound}
+use Rattle.bytewise.specs.Tallies.{tallied}
+use Rattle.blaming.specs.Bytes.{lengthsLine, fieldLine, textAt, endLine}
 
 -- a beginning: with two columns, or with the only line
 pub data Start : Type 0 where
-  both : Loaded → Loaded → Start
+  both : Column → Column → Start
   only : List ℕ → Start
 
 -- with two columns, unless a field differs
-abbrev pub startsWith : Loaded → Loaded → Field → Start
-startsWith o p (At i name) = only (fieldLine i name)
-startsWith o p Nothing = both o p
+abbrev pub startsWith : Column → Column → Field → Start
+startsWith c d (At i name) = only (fieldLine i name)
+startsWith c d Nothing = both c d
 
 -- from what opening found of each side: a refusal, the left one first, unequal lengths, a field that differs
 abbrev pub starts : (left right : Outcome Loaded) (s t : List ℕ) → Start
 starts (refusal number also) right s t = only (namedLine (ascii "left refused ") number)
 starts (value o) (refusal number also) s t = only (namedLine (ascii "right refused ") number)
 starts (value o) (value p) s t =
-    pick (eqb (length s) (length t)) (startsWith o p (firstField (partOf s (o .column)) s t 0 (length s))) (only (lengthsLine (length s) (length t)))
+    pick (eqb (length s) (length t)) (startsWith (o .column) (p .column) (firstField (partOf s (o .column)) s t 0 (length s))) (only (lengthsLine (length s) (length t)))
 
 -- ---- what a call answers
 
 -- the answer
 abbrev pub begun : Start → Begun
-begun (both o p) = Columns (o .column) (p .column)
+begun (both c d) = Columns c d
 begun (only l) = Line (length l)
 
 -- the line
 abbrev pub lineIn : Start → List ℕ
-lineIn (both o p) = []
+lineIn (both c d) = []
 lineIn (only l) = l
 
 -- its length in the answer
@@ -51,21 +55,9 @@ abbrev pub lineLength : Begun → ℕ
 lineLength (Columns c d) = 0
 lineLength (Line n) = n
 
--- the numbers for the left side's table
-abbrev pub leftTable : Start → List ℕ
-leftTable (both o p) = o .table
-leftTable (only l) = []
-
--- and for the right one's
-abbrev pub rightTable : Start → List ℕ
-rightTable (both o p) = p .table
-rightTable (only l) = []
-
--- the answer, what each side's table holds, and the line before and after, whose first bytes the answer counts
-pub record BegunAs (b : Start) (r : Begun) (ltable ltable′ rtable rtable′ old new : List ℕ) : Type 0 where
+-- the answer, and the line before and after, whose first bytes the answer counts
+pub record BegunAs (b : Start) (r : Begun) (old new : List ℕ) : Type 0 where
   pub answer : r ≡ begun b
-  pub left-table : ltable′ ≡ sets ltable 0 (leftTable b)
-  pub right-table : rtable′ ≡ sets rtable 0 (rightTable b)
   pub line : new ≡ sets old 0 (lineIn b)
   pub counts : Counts (lineLength r) new
 
@@ -73,9 +65,7 @@ pub record BegunAs (b : Start) (r : Begun) (ltable ltable′ rtable rtable′ ol
 
 -- the text of every offset and the last line, or the only line
 abbrev pub blamed : Start → (s t : List ℕ) → List ℕ
-blamed (both o p) s t =
-    rowTexts (textAt (o .column) (o .table) s (p .column) (p .table) t) 0 (length s)
-    ++ endLine (tallied (ownersFound (o .column) (o .table) s) s t)
+blamed (both c d) s t = rowTexts (textAt c s d t) 0 (length s) ++ endLine (tallied (ownersFound c s) s t)
 blamed (only l) s t = l
 
 -- what the program writes of the bytes of two files

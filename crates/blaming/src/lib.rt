@@ -2,8 +2,6 @@
 // bytes at a time as a lent buffer has room for; and how many bytes and rows there are. A side that does not open, unequal lengths and a field that
 // differs are a line of their own: then the bytes of the area do not tell which rows changed. No argument makes a call fail, and each contract says what
 // every lent entry holds afterwards.
-mod counting;
-mod fields;
 mod lines;
 mod rows;
 
@@ -14,10 +12,15 @@ ghost use Rattle.io.specs.Counts.{Counts};
 ghost use Rattle.format.specs.Listing.{openedHere};
 ghost use Rattle.format.specs.Outcome.{Wrote};
 ghost use Rattle.text.specs.Chunk.{chunk};
+ghost use Rattle.text.specs.Own.{Opens};
 ghost use Rattle.blaming.specs.Beginning.{starts, BegunAs};
-ghost use Rattle.blaming.specs.Bytes.{blameMax, textAt, endLine, tallied, ownersFound};
+ghost use Rattle.bytewise.specs.Owners.{ownersFound};
+ghost use Rattle.bytewise.specs.Tallies.{tallied};
+ghost use Rattle.blaming.specs.Bytes.{blameMax, textAt, endLine};
 ghost use Rattle.blaming.specs.Chunk.{lookedIn};
-use fields::Field;
+use bytewise::counting;
+use bytewise::fields;
+use bytewise::fields::Field;
 use format::Column;
 use format::Opened;
 use text::lines::named_line;
@@ -39,17 +42,10 @@ pub struct Looked {
     pub bytes: usize,
 }
 
-// Begins a blame: opens both sides within a program's limits, looks at their lengths and fields, and then fills the table of each. Where a side is refused,
-// the left one before the right, where the lengths differ or a field does, both tables stay as they were, and the line that says so, the only one then,
-// is written at the start of the lent one.
-pub fn begin(
-    left: &[u8],
-    ltable: &mut [u64; 8192],
-    right: &[u8],
-    rtable: &mut [u64; 8192],
-    line: &mut [u8; 128],
-) -> Begun
-    ensures { λ r. ⌜ BegunAs (starts (openedHere (now (left .entry))) (openedHere (now (right .entry))) (now (left .entry)) (now (right .entry))) r (now (ltable .entry)) (now (ltable .exit)) (now (rtable .entry)) (now (rtable .exit)) (now (line .entry)) (now (line .exit)) ⌝ }
+// Begins a blame: opens both sides within a program's limits, and looks at their lengths and fields. Where a side is refused, the left one before the right,
+// where the lengths differ or a field does, the line that says so, the only one then, is written at the start of the lent one.
+pub fn begin(left: &[u8], right: &[u8], line: &mut [u8; 128]) -> Begun
+    ensures { λ r. ⌜ BegunAs (starts (openedHere (now (left .entry))) (openedHere (now (right .entry))) (now (left .entry)) (now (right .entry))) r (now (line .entry)) (now (line .exit)) ⌝ }
 {
     let opened = opening::open_plain(left);
     let Opened::Column(column, _) = opened else {
@@ -67,24 +63,22 @@ pub fn begin(
     if let Field::At(offset, name) = fields::first_field(column, left, right) {
         return Begun::Line(lines::field_line(offset, name, line));
     }
-    opening::fill(left, opened, ltable);
-    opening::fill(right, other, rtable);
     Begun::Columns(column, against)
 }
 
-// Writes the text of the offsets from `from` on at the start of a buffer, while a longest text has room. A byte that is the same on both sides has none.
+// Internal: asks for two columns, each opened of its bytes. Writes the text of the offsets from `from` on at the start of a buffer, while a longest text has room. A byte
+// that is the same on both sides has none.
 pub fn fill_lines(
     left: Column,
-    ltable: &[u64],
     lbytes: &[u8],
     right: Column,
-    rtable: &[u64],
     rbytes: &[u8],
     from: usize,
     out: &mut [u8],
 ) -> Looked
-    ensures { λ r. ⌜ r ≡ lookedIn (textAt left (now (ltable .entry)) (now (lbytes .entry)) right (now (rtable .entry)) (now (rbytes .entry))) (length (now (lbytes .entry))) (length (now (out .entry))) from ⌝ }
-    ensures { λ _. ⌜ now (out .exit) ≡ sets (now (out .entry)) 0 (chunk (textAt left (now (ltable .entry)) (now (lbytes .entry)) right (now (rtable .entry)) (now (rbytes .entry))) blameMax (length (now (lbytes .entry))) (length (now (out .entry))) from) ⌝ }
+    requires { ⌜ Opens (now lbytes) left × Opens (now rbytes) right ⌝ }
+    ensures { λ r. ⌜ r ≡ lookedIn (textAt left (now (lbytes .entry)) right (now (rbytes .entry))) (length (now (lbytes .entry))) (length (now (out .entry))) from ⌝ }
+    ensures { λ _. ⌜ now (out .exit) ≡ sets (now (out .entry)) 0 (chunk (textAt left (now (lbytes .entry)) right (now (rbytes .entry))) blameMax (length (now (lbytes .entry))) (length (now (out .entry))) from) ⌝ }
     ensures { λ r. ⌜ Counts (r .bytes) (now (out .exit)) ⌝ }
 {
     let mut i = from;
@@ -93,7 +87,7 @@ pub fn fill_lines(
         if out.len() - at < BLAME_MAX {
             break;
         }
-        at = rows::put_offset(out, at, left, ltable, lbytes, right, rtable, rbytes, i);
+        at = rows::put_offset(out, at, left, lbytes, right, rbytes, i);
         i += 1;
     }
     Looked {
@@ -102,18 +96,13 @@ pub fn fill_lines(
     }
 }
 
-// Writes the last line, with the count of the bytes that differ and of the rows that they name, at the start of the lent one, and returns its length. A row
-// that several bytes name is counted once.
-pub fn end_line(
-    column: Column,
-    table: &[u64; 8192],
-    left: &[u8],
-    right: &[u8],
-    line: &mut [u8; 128],
-) -> usize
-    ensures { λ r. ⌜ Wrote (now (line .entry)) 0 (endLine (tallied (ownersFound column (now (table .entry)) (now (left .entry))) (now (left .entry)) (now (right .entry)))) (now (line .exit)) r ⌝ }
+// Internal: asks for a column that was opened of the left bytes. Writes the last line, with the count of the bytes that differ and of the rows that they name, at the start of
+// the lent one, and returns its length. A row that several bytes name is counted once.
+pub fn end_line(column: Column, left: &[u8], right: &[u8], line: &mut [u8; 128]) -> usize
+    requires { ⌜ Opens (now left) column ⌝ }
+    ensures { λ r. ⌜ Wrote (now (line .entry)) 0 (endLine (tallied (ownersFound column (now (left .entry))) (now (left .entry)) (now (right .entry)))) (now (line .exit)) r ⌝ }
     ensures { λ r. ⌜ Counts r (now (line .exit)) ⌝ }
 {
-    let tally = counting::count(column, table, left, right);
+    let tally = counting::count(column, left, right);
     lines::count_line(tally.bytes, tally.rows, line)
 }

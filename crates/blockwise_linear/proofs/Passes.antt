@@ -9,10 +9,11 @@ use mathlib.Core.Path.{_≡_, refl, sym, ap, _∙_, subst}
 use mathlib.Core.List.{List, [], _∷_}
 use Prim.Native.Nat.{ℕ, suc, _+_, _-_, _*_, _^_, _≤_, _<_, min}
 use native.Mathlib.Nat.{mul-le-mul-right}
-use native.Mathlib.Numerals.{add-one, add-two, add-three, add-four}
+use native.Mathlib.Numerals.{add-one}
 use native.Mathlib.Omega.{arith}
 use lib.ListN.{length, set, length-set}
 use lib.Seq.{sets}
+use Rattle.format.specs.declared.Block.{Block}
 use Rattle.format.specs.declared.Fields.{Fields}
 use Rattle.format.specs.declared.Spelling.{Spelling}
 use Rattle.format.specs.declared.Spelling.the-variants.{Shortest, Longer}
@@ -26,7 +27,7 @@ use Rattle.format.proofs.Widths.{legal-most}
 use Rattle.format.proofs.LineFields.{fields-read}
 use Rattle.blockwise_linear.specs.declared.reader.Cursor.{Cursor}
 use Rattle.blockwise_linear.specs.declared.reader.Step.{Step}
-use Rattle.blockwise_linear.specs.Reader.{upToLength, firstCursor, stepOf, stepIn, blocksFrom, areaIn, numbersIn, Small, Good, Fillable}
+use Rattle.blockwise_linear.specs.Reader.{upToLength, firstCursor, stepOf, stepIn, blocksFrom, areaIn, listed, Small, Good, Fillable}
 
 -- nothing longer follows
 first-alone : (p : Spelling) → firstOf p Shortest ≡ p
@@ -35,11 +36,11 @@ first-alone (Longer offset) = refl
 
 -- ---- a block and those behind it
 
--- a table behind a block's four numbers
+-- a table behind a block
 abbrev pub before : Step → Table → Table
 before t later =
     record {
-      numbers = t .block .line .slope ∷ t .block .line .intercept ∷ t .block .bits ∷ t .block .start ∷ later .numbers;
+      blocks = t .block ∷ later .blocks;
       area = later .area;
       spelling = firstOf (t .spelling) (later .spelling);
     }
@@ -48,7 +49,7 @@ abbrev pub behind : Step → Outcome Table → Outcome Table
 behind t o = o >>= (λ (later : Table). value (before t later))
 
 -- no rows are left: no blocks
-none-left : (s : List ℕ) (c : Cursor) → c .left ≤ 0 → blocksFrom s c ≡ value (record { numbers = []; area = c .start; spelling = Shortest })
+none-left : (s : List ℕ) (c : Cursor) → c .left ≤ 0 → blocksFrom s c ≡ value (record { blocks = []; area = c .start; spelling = Shortest })
 unfolding readBlocks
 none-left s c h =
     let none : blockCount (c .left) ≡ 0 = omega arith in
@@ -95,7 +96,7 @@ pub record Checking (s : List ℕ) (first c : Cursor) (spelling : Spelling) : Ty
 pub checking-starts : (s : List ℕ) (first : Cursor) → Small first → Checking s first first Shortest
 checking-starts s first small = record { small = small; rest = refl }
 
--- a block's numbers do not change the area, and its spelling joins those before it
+-- a block does not change the area, and its spelling joins those before it
 area-behind : (p : Spelling) (t : Step) (o : Outcome Table) → areaBehind p (behind t o) ≡ areaBehind (firstOf p (t .spelling)) o
 area-behind Shortest t (value later) = refl
 area-behind (Longer offset) t (value later) = refl
@@ -117,16 +118,16 @@ module _ {s : List ℕ} {first c : Cursor} {p : Spelling} (k : Checking s first 
 
 -- ---- the second pass
 
--- l holds the blocks before c, in its first i numbers; those from c on are still to come
-pub record Filling (s : List ℕ) (rows : ℕ) (l₀ : List ℕ) (c : Cursor) (i : ℕ) (l : List ℕ) : Type 0 where
+-- l holds the i blocks before c; those from c on are still to come
+pub record Filling (s : List ℕ) (rows : ℕ) (l₀ : List Block) (c : Cursor) (i : ℕ) (l : List Block) : Type 0 where
   pub small : Small c
   pub kept : length l ≡ length l₀
-  pub enough : i + 4 * blockCount (c .left) ≤ length l
+  pub enough : i + blockCount (c .left) ≤ length l
   pub later : Table
   pub good : blocksFrom s c ≡ value later
-  pub rest : stored (numbersIn (blocksFrom s (firstCursor s rows))) l₀ ≡ sets l i (later .numbers)
+  pub rest : stored (listed (blocksFrom s (firstCursor s rows))) l₀ ≡ sets l i (later .blocks)
 
-pub filling-starts : (s : List ℕ) (rows : ℕ) (l : List ℕ) → rows < 2 ^ 32 → Fillable s rows (length l) → Filling s rows l (firstCursor s rows) 0 l
+pub filling-starts : (s : List ℕ) (rows : ℕ) (l : List Block) → rows < 2 ^ 32 → Fillable s rows (length l) → Filling s rows l (firstCursor s rows) 0 l
 filling-starts s rows l few f =
     record {
       small = record { bytes = omega arith };
@@ -137,19 +138,14 @@ filling-starts s rows l few f =
       rest = rw (f .checked .is);
     }
 
--- a block's four numbers in their places
-abbrev pub put : List ℕ → ℕ → Step → List ℕ
-put l i t =
-    set (set (set (set l i (t .block .line .slope)) (i + 1) (t .block .line .intercept)) (i + 2) (t .block .bits)) (i + 3) (t .block .start)
-
-module _ {s : List ℕ} {rows : ℕ} {l₀ : List ℕ} {c : Cursor} {i : ℕ} {l : List ℕ} (k : Filling s rows l₀ c i l) where
+module _ {s : List ℕ} {rows : ℕ} {l₀ : List Block} {c : Cursor} {i : ℕ} {l : List Block} (k : Filling s rows l₀ c i l) where
   -- a block that was checked is there
   pub filling-good : 0 < c .left → Good (stepIn s c)
   filling-good h =
       by-step (stepIn s c) (λ (t : Step). behind t (blocksFrom s (t .next))) (sym (by-block s c h) ∙ k .good) λ t e more.
       record { found = t; is = e }
 
-  pub filling-more : (t : Step) → stepIn s c ≡ value t → 0 < c .left → Filling s rows l₀ (t .next) (i + 4) (put l i t)
+  pub filling-more : (t : Step) → stepIn s c ≡ value t → 0 < c .left → Filling s rows l₀ (t .next) (i + 1) (set l i (t .block))
   filling-more t e h =
       let here : behind t (blocksFrom s (t .next)) ≡ value (k .later) = sym (rw e at (by-block s c h)) ∙ k .good in
       by-step (blocksFrom s (t .next)) (λ (later : Table). value (before t later)) here λ later good same.
@@ -159,10 +155,10 @@ module _ {s : List ℕ} {rows : ℕ} {l₀ : List ℕ} {c : Cursor} {i : ℕ} {l
         enough = simp length-set (omega (arith, k .enough, step-less s c t e));
         later = later;
         good = good;
-        rest = k .rest ∙ ap (λ (u : Table). sets l i (u .numbers)) (sym (value-same same)) ∙ simp (add-one, add-two, add-three, add-four);
+        rest = k .rest ∙ ap (λ (u : Table). sets l i (u .blocks)) (sym (value-same same)) ∙ simp add-one;
       }
 
-  pub filling-ends : c .left ≤ 0 → l ≡ stored (numbersIn (blocksFrom s (firstCursor s rows))) l₀
+  pub filling-ends : c .left ≤ 0 → l ≡ stored (listed (blocksFrom s (firstCursor s rows))) l₀
   filling-ends h =
-      let done : record { numbers = []; area = c .start; spelling = Shortest } ≡ k .later = value-same (sym (none-left s c h) ∙ k .good) in
-      sym (k .rest ∙ ap (λ (u : Table). sets l i (u .numbers)) (sym done))
+      let done : record { blocks = []; area = c .start; spelling = Shortest } ≡ k .later = value-same (sym (none-left s c h) ∙ k .good) in
+      sym (k .rest ∙ ap (λ (u : Table). sets l i (u .blocks)) (sym done))

@@ -10,10 +10,11 @@ use mathlib.Core.List.{List}
 use native.Mathlib.Omega.{arith}
 use lib.ListN.{drop, getD}
 use lib.Seq.{getD-drop, drop-drop}
+use Rattle.format.specs.declared.Block.{Block}
 use Rattle.format.specs.Outcome.{Outcome.value}
 use Rattle.format.specs.Bodies.{blockCount}
 use Rattle.format.specs.Opening.{Table}
-use Rattle.format.specs.Reading.{blockAt}
+use Rattle.format.specs.Reading.{noBlock, blockAt}
 use Rattle.format.proofs.Outcomes.{value-same, by-step}
 use Rattle.blockwise_linear.specs.declared.passing.Pass.{Pass}
 use Rattle.blockwise_linear.specs.declared.reader.Step.{Step}
@@ -22,29 +23,29 @@ use Rattle.blockwise_linear.specs.Passing.{onward, passed, Passing}
 use Rattle.blockwise_linear.proofs.Passes.{before, behind, by-block, step-small, step-less}
 
 -- a pass k blocks on: its place can be counted, so many rows are left, and the blocks from there on are the rest of the table
-pub record Stop (s : List ℕ) (rows : ℕ) (numbers : List ℕ) (k : ℕ) : Type 0 where
+pub record Stop (s : List ℕ) (rows : ℕ) (table : List Block) (k : ℕ) : Type 0 where
   pub count : passed s rows k .count ≡ k
   pub small : Small (passed s rows k .next)
   pub left : passed s rows k .next .left ≡ rows - 512 * k
   pub later : Table
   pub good : blocksFrom s (passed s rows k .next) ≡ value later
-  pub rest : drop (4 * k) numbers ≡ later .numbers
+  pub rest : drop k table ≡ later .blocks
 
 -- the block behind it, and the blocks behind that
-record Next (s : List ℕ) (rows : ℕ) (numbers : List ℕ) (k : ℕ) : Type 0 where
+record Next (s : List ℕ) (rows : ℕ) (table : List Block) (k : ℕ) : Type 0 where
   pub step : Step
   pub is : stepIn s (passed s rows k .next) ≡ value step
   pub later : Table
   pub good : blocksFrom s (step .next) ≡ value later
-  pub rest : drop (4 * k) numbers ≡ before step later .numbers
+  pub rest : drop k table ≡ before step later .blocks
 
-module _ {s : List ℕ} {rows : ℕ} {numbers : List ℕ} {k : ℕ} (a : Stop s rows numbers k) (more : k < blockCount rows) where
-  next : Next s rows numbers k
+module _ {s : List ℕ} {rows : ℕ} {table : List Block} {k : ℕ} (a : Stop s rows table k) (more : k < blockCount rows) where
+  next : Next s rows table k
   next =
       let c = passed s rows k .next in
       by-step (stepIn s c) (λ (t : Step). behind t (blocksFrom s (t .next))) (sym (by-block s c (omega (arith, a .left))) ∙ a .good) λ t e found.
       by-step (blocksFrom s (t .next)) (λ (later : Table). value (before t later)) found λ later good same.
-      record { step = t; is = e; later = later; good = good; rest = a .rest ∙ ap (λ (u : Table). u .numbers) (sym (value-same same)) }
+      record { step = t; is = e; later = later; good = good; rest = a .rest ∙ ap (λ (u : Table). u .blocks) (sym (value-same same)) }
 
   pub stop-good : Good (stepIn s (passed s rows k .next))
   stop-good = record { found = next .step; is = next .is }
@@ -54,30 +55,26 @@ module _ {s : List ℕ} {rows : ℕ} {numbers : List ℕ} {k : ℕ} (a : Stop s 
   unfolding passed
   one-on = ap (onward (passed s rows k)) (next .is)
 
-  -- a number of the table from there on
-  number : (j : ℕ) → getD numbers (4 * k + j) 0 ≡ getD (before (next .step) (next .later) .numbers) j 0
-  number j = sym (getD-drop (4 * k) numbers j 0) ∙ ap (λ (l : List ℕ). getD l j 0) (next .rest)
-
-  pub stop-further : Stop s rows numbers (suc k)
+  pub stop-further : Stop s rows table (suc k)
   stop-further =
       let n = next in
       let c = passed s rows k .next in
-      let four : 4 * suc k ≡ 4 * k + 4 = omega arith in
+      let one-more : suc k ≡ k + 1 = omega arith in
       record {
         count = rw one-on (omega (arith, a .count));
         small = rw one-on (step-small s c (n .step) (a .small) (n .is));
         left = rw one-on (omega (arith, a .left, step-less s c (n .step) (n .is)));
         later = n .later;
         good = rw one-on (n .good);
-        rest = ap (λ (i : ℕ). drop i numbers) four ∙ sym (drop-drop 4 (4 * k) numbers) ∙ ap (drop 4) (n .rest);
+        rest = ap (λ (i : ℕ). drop i table) one-more ∙ sym (drop-drop 1 k table) ∙ ap (drop 1) (n .rest);
       }
 
-  pub stop-block : passed s rows (suc k) .block ≡ blockAt numbers k
+  pub stop-block : passed s rows (suc k) .block ≡ blockAt table k
   stop-block =
-      let here : 4 * k ≡ 4 * k + 0 = omega arith in
-      rw one-on (sym (rw (ap (λ (i : ℕ). getD numbers i 0) here ∙ number 0, number 1, number 2, number 3)))
+      let here : k ≡ k + 0 = omega arith in
+      rw one-on (sym (ap (blockAt table) here ∙ sym (getD-drop k table 0 noBlock) ∙ ap (λ (l : List Block). getD l 0 noBlock) (next .rest)))
 
-pub stop : (s : List ℕ) (rows : ℕ) → rows < 2 ^ 32 → (t : Table) → blocksFrom s (firstCursor s rows) ≡ value t → (k : ℕ) → k ≤ blockCount rows → Stop s rows (t .numbers) k
+pub stop : (s : List ℕ) (rows : ℕ) → rows < 2 ^ 32 → (t : Table) → blocksFrom s (firstCursor s rows) ≡ value t → (k : ℕ) → k ≤ blockCount rows → Stop s rows (t .blocks) k
 unfolding passed
 stop s rows few t good zero inside = record { count = refl; small = record { bytes = omega arith }; left = omega arith; later = t; good = good; rest = refl }
 stop s rows few t good (suc k) inside = stop-further (stop s rows few t good k (omega arith)) (omega arith)
@@ -92,7 +89,7 @@ passing-starts {s} {rows} {p} e =
     (record { stands = e ∙ ap (passed s rows) (sym none); inside = omega arith }, none)
 
 module _ {s : List ℕ} {rows : ℕ} {p : Pass} (few : rows < 2 ^ 32) (checked : Good (blocksFrom s (firstCursor s rows))) (a : Passing s rows p) (more : p .count < blockCount rows) where
-  here : Stop s rows (checked .found .numbers) (p .count)
+  here : Stop s rows (checked .found .blocks) (p .count)
   here = stop s rows few (checked .found) (checked .is) (p .count) (a .inside)
 
   -- the block behind it is there

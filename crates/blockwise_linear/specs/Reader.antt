@@ -64,9 +64,9 @@ blocksFrom s c = readBlocks (blockCount (c .left)) (upToLength s) (c .at) (c .st
 abbrev pub areaIn : Outcome Table → Outcome (ℕ × Spelling)
 areaIn o = o >>= (λ (t : Table). value (t .area, t .spelling))
 
--- and as the table's numbers alone
-abbrev pub numbersIn : Outcome Table → Outcome (List ℕ)
-numbersIn o = o >>= (λ (t : Table). value (t .numbers))
+-- and as the blocks alone
+abbrev pub listed : Outcome Table → Outcome (List Block)
+listed o = o >>= (λ (t : Table). value (t .blocks))
 
 -- the column of a head, its blocks' area and spelling: the area has to end before the footer
 abbrev pub columnOver : Head → (footer : ℕ) → ℕ × Spelling → Outcome (Column × Spelling)
@@ -106,10 +106,10 @@ pub record Good {A : Type 0} (o : Outcome A) : Type 0 where
   pub found : A
   pub is : o ≡ value found
 
--- the blocks of so many rows were checked, and a table of so many numbers has room for them
+-- the blocks of so many rows were checked, and a table has room for them
 pub record Fillable (s : List ℕ) (rows room : ℕ) : Type 0 where
   pub checked : Good (blocksFrom s (firstCursor s rows))
-  pub enough : 4 * blockCount rows ≤ room
+  pub enough : blockCount rows ≤ room
 
 -- the codec, a maximum of 64 bits, a legal width of the row's block, and a block that starts within the bytes if it has bits at all
 pub record Readable (col : Column) (b : Block) (s : List ℕ) : Type 0 where

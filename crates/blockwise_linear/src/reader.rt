@@ -1,24 +1,23 @@
-// Reading: opening a column behind its head, the block table, and a row of an opened column.
+// Reading: opening a column behind its head, and a row of an opened column.
 //
-// The footer is read twice. The first pass reads every block's fields and adds up the area, before anything is decided; the
-// second puts the blocks into the table, once they are known to be good. Only `fill` writes a table and only `block_at` reads
-// one; everything else takes a block by value.
+// The footer is read twice. The first pass, here, reads every block's fields and adds up the area, before anything is decided;
+// who needs the blocks takes them one after another, once they are known to be good. A row takes its block by value.
 ghost use mathlib.Core.Path.{_≡_};
 ghost use mathlib.Core.Bool.{true, _&&_};
 ghost use mathlib.Core.Logic.{_⊎_};
 ghost use Prim.Native.Nat.{ℕ, _+_, _-_, _*_, min, _/_, _%_, _^_, _≤_, _<_};
 ghost use lib.Dec.{leb};
 ghost use lib.ListN.{length, drop, getD};
-ghost use Rattle.format.specs.Outcome.{Outcome.value, stored};
+ghost use Rattle.format.specs.Outcome.{Outcome.value};
 ghost use Rattle.format.specs.Word.{modAdd};
 ghost use Rattle.format.specs.Packing.{bytesNum, legal, unpack};
 ghost use Rattle.format.specs.Line.{lineAt};
 ghost use Rattle.format.specs.Refusals.{openedMeaning, rowMeaning};
 ghost use Rattle.format.specs.Opening.{openBlockwise, readFields, columnIn};
-ghost use Rattle.format.specs.Reading.{blockAt, packedOf, scaled, valueIn, valueAt};
+ghost use Rattle.format.specs.Reading.{packedOf, scaled, valueIn, valueAt};
 ghost use Rattle.format.specs.Runs.{readRun, filledTo};
 ghost use Rattle.line.specs.Meaning.{fieldsMeaning};
-ghost use Rattle.blockwise_linear.specs.Reader.{stepMeaning, areaMeaning, lastMeaning, lastIn, upToLength, stepIn, blocksFrom, areaIn, numbersIn, columnOver, firstCursor, Small, Good, Fillable, Readable, numbersStart};
+ghost use Rattle.blockwise_linear.specs.Reader.{stepMeaning, areaMeaning, lastMeaning, lastIn, upToLength, stepIn, blocksFrom, areaIn, columnOver, firstCursor, Small, Good, Readable, numbersStart};
 use format::Block;
 use format::BlockRow;
 use format::Codec;
@@ -232,25 +231,6 @@ pub fn next_block(bytes: &[u8], c: Cursor) -> Step
     }
 }
 
-// Internal: asks for blocks that were checked, and for room. The second pass: the blocks of so many rows are put into the
-// table, four numbers a block: slope, intercept, width, start byte.
-pub fn fill(bytes: &[u8], rows: u32, table: &mut [u64])
-    requires { ⌜ Fillable (now bytes) rows (length (now table)) ⌝ }
-    ensures { λ _. ⌜ now (table .exit) ≡ stored (numbersIn (blocksFrom (now (bytes .entry)) (firstCursor (now (bytes .entry)) rows))) (now (table .entry)) ⌝ }
-{
-    let mut c = first(bytes, rows);
-    let mut i: usize = 0;
-    while 0 < c.left {
-        let step = next_block(bytes, c);
-        table[i] = step.block.line.slope;
-        table[i + 1] = step.block.line.intercept;
-        table[i + 2] = step.block.bits;
-        table[i + 3] = step.block.start;
-        c = step.next;
-        i += 4;
-    }
-}
-
 // The end of a footer: the width of the last block, 0 where there is none, the offset behind its fields, and where the footer
 // starts and ends.
 pub struct Last {
@@ -298,31 +278,6 @@ pub fn footer_last(bytes: &[u8], rows: u32) -> LastRead
         start,
         end,
     })
-}
-
-// Number `i` of a table, 0 past its end.
-fn number_at(table: &[u64], i: usize) -> u64
-    ensures { λ r. ⌜ r ≡ getD (now (table .entry)) i 0 ⌝ }
-{
-    if i < table.len() { table[i] } else { 0 }
-}
-
-// Block `k` of a table; numbers past the table's end are zeros.
-pub fn block_at(table: &[u64], k: usize) -> Block
-    ensures { λ r. ⌜ r ≡ blockAt (now (table .entry)) k ⌝ }
-{
-    if table.len() <= k {
-        return NO_BLOCK;
-    }
-    let i = 4 * k;
-    Block {
-        line: Line {
-            slope: number_at(table, i),
-            intercept: number_at(table, i + 1),
-        },
-        bits: number_at(table, i + 2),
-        start: number_at(table, i + 3),
-    }
 }
 
 // A row of the column by its block: the block's number, and the row's within it.

@@ -5,6 +5,8 @@ pub mod Fronts
 pub mod Steps
 -- what opening found
 pub mod Verdicts
+-- the walks by hand
+pub mod Types
 -- of the calls
 pub mod Calls
 pub mod Determined

@@ -25,10 +25,10 @@ use Rattle.format.specs.Outcome.{Outcome, Outcome.value, Outcome.refusal, pick}
 use Rattle.format.specs.Stats.{statsOf}
 use Rattle.format.specs.Typed.{storedIn, storedAs}
 use Rattle.format.proofs.Lists.{below-or, drop-map}
-use Rattle.reading.specs.declared.taking.Stretch.{Stretch}
+use Rattle.chunks.specs.declared.taking.Stretch.{Stretch}
 use Rattle.reading.specs.Chunks.{chunkSize}
-use Rattle.reading.specs.Stretch.{leading, stretch, counted, StretchAs}
-use Rattle.reading.proofs.Stretches.{stretch-most, stretch-value}
+use Rattle.chunks.specs.Stretch.{leading, stretch, counted, StretchAs}
+use Rattle.chunks.proofs.Stretches.{stretch-most, stretch-value}
 use Rattle.checking.specs.declared.rows.Walk.{Walk}
 use Rattle.checking.specs.Walks.{sameFront, behind, left, Walking, verdict}
 use Rattle.checking.proofs.Fronts.{front-most, skip-front, stop-front, stop-refused}

@@ -1,20 +1,25 @@
 -- The verdict on what opening under a sheet found.
---     Stands, told-opened, stands  what an answer that is a column comes from
---     through                      a lent table that was filled answers the column's rows as the opening's own numbers do
+--     Owns                         opening some bytes finds a column, with some room
 --     rows-few, maximum-fits       its rows have 32 bits, its maximum 64
---     whole-chunk                  it is seen whole
+--     blocks-checked               its blocks were checked
+--     Stands, stands, owned        what an answer that is a column comes from, under a sheet
+--     through                      a lent table that was filled answers the column's rows as the opening's own numbers do
+--     Turning, turning-starts      the invariant of the walk over the rows, by a pass over the blocks
+--     turn-room, turn-less, turn-again
+--                                  a turn: what it asks for, that less is left, and that the invariant is kept
 --     refused-unopened, counts-differ, walked-verdict
 --                                  the verdict: opening's refusal, the counts, or what the walk over the rows came to
 --     numbers-checked              of a list of numbers
 -- Assumes nothing.
-use Prim.Native.Nat.{ℕ, suc, _+_, _-_, _*_, _/_, _^_, _<_}
+use Prim.Native.Nat.{ℕ, _+_, _-_, _*_, _/_, _%_, _^_, _≤_, _<_, min}
 use mathlib.Core.Path.{_≡_, refl, sym, ap, _∙_, subst}
-use mathlib.Core.Bool.{false}
-use mathlib.Core.List.{List, [], _∷_}
+use mathlib.Core.Bool.{true, false}
+use mathlib.Core.List.{List}
 use native.Mathlib.Nat.{mul-comm}
 use native.Mathlib.Omega.{arith}
 use borrow.Author.Tests.{ne-eqb}
-use lib.ListN.{length}
+use lib.ListN.{length, take, drop}
+use Rattle.format.specs.declared.Block.{Block}
 use Rattle.format.specs.declared.Checked.{Checked}
 use Rattle.format.specs.declared.Checked.the-variants.{Unopened, Counts}
 use Rattle.format.specs.declared.Column.{Column}
@@ -23,134 +28,190 @@ use Rattle.format.specs.declared.Opened.{Opened}
 use Rattle.format.specs.declared.Opened.the-variants.{Column as OpenedColumn, Refused}
 use Rattle.format.specs.declared.Refusal.{Refusal}
 use Rattle.format.specs.declared.Spelling.{Spelling}
-use Rattle.format.specs.Calls.{OpenedAs}
-use Rattle.format.specs.Checking.{Reason.counts, Verdict.failed, firstUnequal, judged, checked}
+use Rattle.format.specs.Bodies.{blockCount}
+use Rattle.format.specs.Checking.{Verdict, judged, checked}
 use Rattle.format.specs.Demands.{filledBy}
-use Rattle.format.specs.Opening.{Loaded, opened}
+use Rattle.format.specs.Opening.{Loaded, opened, columnIn}
 use Rattle.format.specs.Outcome.{Outcome, Outcome.value, Outcome.refusal}
-use Rattle.format.specs.Reading.{columnRow, rowAt}
-use Rattle.format.specs.Refusals.{paper, checkedMeaning}
+use Rattle.format.specs.Reading.{columnRow, blockAt, rowIn, rowAt}
+use Rattle.format.specs.Refusals.{paper, openedMeaning, checkedMeaning}
 use Rattle.format.specs.Sheets.{openedUnder}
 use Rattle.format.specs.Typed.{storedAs}
-use Rattle.format.proofs.Laid.{opened-laid, opened-whole}
+use Rattle.format.proofs.Laid.{Laid, opened-laid, opened-whole}
 use Rattle.format.proofs.Outcomes.{not-value, value-same}
 use Rattle.format.proofs.Rows.{filled-row}
 use Rattle.format.proofs.StoredLists.{stored-numbers}
-use Rattle.sheets.proofs.SheetNumbers.{accepted}
+use Rattle.blockwise_linear.specs.declared.passing.Pass.{Pass}
+use Rattle.blockwise_linear.specs.Passing.{passed, Passing}
+use Rattle.blockwise_linear.specs.Reader.{firstCursor, blocksFrom, Good}
+use Rattle.blockwise_linear.proofs.Stops.{passing-starts}
+use Rattle.chunks.specs.declared.taking.Stretch.{Stretch}
 use Rattle.reading.specs.Chunks.{chunkSize}
+use Rattle.chunks.specs.Stretch.{counted, StretchAs}
+use Rattle.chunks.proofs.Chunks.{in-block}
+use Rattle.chunks.proofs.Stretches.{stretch-by, stretch-for}
+use Rattle.sheets.proofs.SheetNumbers.{accepted}
+use Rattle.u64_based.specs.Opening.{blocked}
+use Rattle.u64_based.proofs.Passes.{opened-footer, pass-block, few-blocked, passing-at}
 use Rattle.checking.specs.declared.rows.Walk.{Walk}
-use Rattle.checking.specs.Checked.{CheckedAs}
-use Rattle.checking.specs.Walks.{Walking, verdict}
-use Rattle.checking.proofs.Steps.{walked-over}
+use Rattle.checking.specs.Checked.{Answers, CheckedAs}
+use Rattle.checking.specs.Walks.{sameFront, behind, left, Walking, verdict}
+use Rattle.checking.proofs.Steps.{stretch-kept, walking-starts, walking-step, step-less, step-room, walked-over}
 
--- ---- opening
+-- ---- a column of some bytes
 
--- an answer that is a column: what opening found, under the sheet too, whose column it is and whose blocks the lent table holds afterwards
-pub record Stands (sheet : ℕ) (s table after : List ℕ) (c : Column) (o : Loaded) : Type 0 where
-  pub under : openedUnder sheet s (length table / 4) ≡ value o
-  pub found : opened s (length table / 4) ≡ value o
+-- opening the bytes, with some room, finds it
+pub record Owns (s : List ℕ) (c : Column) (o : Loaded) : Type 0 where
+  pub room : ℕ
+  pub found : opened s room ≡ value o
   pub column : o .column ≡ c
-  pub filled : after ≡ filledBy o table
 
--- an answer, once it is known which
-pub told-opened : {o : Outcome Loaded} {r q : Opened} {table after : List ℕ} → r ≡ q → OpenedAs o r table after → OpenedAs o q table after
-told-opened {o} {r} {q} {table} {after} e f = subst (λ (x : Opened). OpenedAs o x table after) e f
+module _ {s : List ℕ} {c : Column} {o : Loaded} (e : Owns s c o) where
+  laid : Laid (length s) (e .room) o
+  laid = opened-laid s (e .room) o (e .found)
 
--- a row of an opened column, through the table that its opening filled
-pub through : (o : Loaded) (s table after : List ℕ) (c : Column) → opened s (length table / 4) ≡ value o → o .column ≡ c → after ≡ filledBy o table
-    → (r : ℕ) → r < c .rows → rowAt c after s r ≡ rowAt (o .column) (o .table) s r
-through o s table after c found is filled r h =
-    let laid = opened-laid s (length table / 4) o found in
-    let first : 0 ≡ o .column .window .first = ap (λ (l : Loaded). l .column .window .first) (opened-whole s (length table / 4) o found) in
-    let inside : columnRow (o .column) r < o .column .rows = omega (arith, first, subst (λ (k : Column). r < k .rows) (sym is) h) in
-    ap (λ (l : List ℕ). rowAt c l s r) filled
-    ∙ ap (λ (k : Column). rowAt k (filledBy o table) s r) (sym is)
-    ∙ filled-row o table s r (omega (arith, laid .table)) (laid .rows .present (columnRow (o .column) r) inside)
-
-module _ (sheet : ℕ) (s table after : List ℕ) (c : Column) (p : Spelling) (answer : OpenedAs (openedUnder sheet s (length table / 4)) (OpenedColumn c p) table after) where
-  pub stands : (o : Loaded) × Stands sheet s table after c o
-  stands = go (openedUnder sheet s (length table / 4)) refl answer
-    where
-      go : (x : Outcome Loaded) → openedUnder sheet s (length table / 4) ≡ x → OpenedAs x (OpenedColumn c p) table after → (o : Loaded) × Stands sheet s table after c o
-      go (value o) is r = (
-        o,
-        record {
-          under = is;
-          found = accepted sheet s (opened s (length table / 4)) o is;
-          column = sym (ap (λ (a : Column × Spelling). a .0) (value-same (r .answer)));
-          filled = r .table;
-        },
-      )
-      go (refusal number also) is r = absurd (not-value (sym (r .answer)))
-
-  -- its numbers
   pub rows-few : c .rows < 2 ^ 32
-  rows-few =
-      let e = stands .1 in
-      let laid = opened-laid s (length table / 4) (stands .0) (e .found) in
-      subst (λ (k : Column). k .rows < 2 ^ 32) (e .column) (laid .head .few)
-
-  -- it is seen whole, so its chunks are those of the list
-  pub whole-chunk : (at n : ℕ) → c .rows ≡ n → chunkSize (columnRow c at) (c .window .rows - at) ≡ chunkSize at (n - at)
-  whole-chunk at n long =
-      let e = stands .1 in
-      let is = opened-whole s (length table / 4) (stands .0) (e .found) in
-      let first : 0 ≡ c .window .first = subst (λ (k : Column). 0 ≡ k .window .first) (e .column) (ap (λ (l : Loaded). l .column .window .first) is) in
-      let rows : c .rows ≡ c .window .rows = subst (λ (k : Column). k .rows ≡ k .window .rows) (e .column) (ap (λ (l : Loaded). l .column .window .rows) is) in
-      omega (arith, first, rows, long)
+  rows-few = subst (λ (k : Column). k .rows < 2 ^ 32) (e .column) (laid .head .few)
 
   pub maximum-fits : c .minimum + c .gcd * c .count < 2 ^ 64
   maximum-fits =
-      let o = stands .0 in
-      let e = stands .1 in
-      let laid = opened-laid s (length table / 4) o (e .found) in
       let bounds = subst (λ (k : Column). k .minimum + k .count * k .gcd < 2 ^ 64) (e .column) (laid .head .bounds) in
       omega (arith, mul-comm (c .gcd) (c .count))
 
--- ---- the rows
+  -- it is seen whole
+  first-row : c .window .first ≡ 0
+  first-row = subst (λ (k : Column). k .window .first ≡ 0) (e .column) (sym (ap (λ (l : Loaded). l .column .window .first) (opened-whole s (e .room) o (e .found))))
 
--- readings that agree on the rows of a list have one first unequal row
-first-agree : (read read′ : ℕ → Outcome ℕ) (r : ℕ) (vs : List ℕ) → ((x : ℕ) → x < r + length vs → read x ≡ read′ x) → firstUnequal read r vs ≡ firstUnequal read′ r vs
-unfolding firstUnequal
-first-agree read read′ r [] h = refl
-first-agree read read′ r (v ∷ vs) h = rw (h r (omega arith), first-agree read read′ (suc r) vs (λ x k. h x (omega arith))) refl
+  all-rows : c .window .rows ≡ c .rows
+  all-rows = subst (λ (k : Column). k .window .rows ≡ k .rows) (e .column) (sym (ap (λ (l : Loaded). l .column .window .rows) (opened-whole s (e .room) o (e .found))))
 
-judged-agree : (read read′ : ℕ → Outcome ℕ) (col : Column) (vs : List ℕ) → ((x : ℕ) → x < length vs → read x ≡ read′ x) → judged read col vs ≡ judged read′ col vs
-unfolding judged
-judged-agree read read′ col vs h = rw (first-agree read read′ 0 vs (λ x k. h x (omega arith))) refl
+  -- its blocks, by the rows that have any
+  module _ {rows : ℕ} (has : rows ≡ blocked (c .codec) (c .rows)) where
+    pub blocks-checked : Good (blocksFrom s (firstCursor s rows))
+    blocks-checked = rw (has, ← e .column) (opened-footer s (e .room) o (e .found) .checked)
+
+    rows-blocked : rows < 2 ^ 32
+    rows-blocked = rw has (few-blocked (c .codec) rows-few)
+
+    block-count : blockCount rows ≡ length (o .table)
+    block-count = rw (has, ← e .column) (opened-footer s (e .room) o (e .found) .count)
+
+    block-there : (r : ℕ) → r < c .rows → passed s rows (min (r / 512 + 1) (blockCount rows)) .block ≡ blockAt (o .table) (columnRow c r % 2 ^ 32 / 512)
+    block-there r inside =
+        let here : r / 512 ≡ columnRow c r % 2 ^ 32 / 512 = omega (arith, first-row, rows-few) in
+        rw (← here, has, ← e .column) (pass-block s (e .room) o (e .found) (laid .head .few) r (rw (e .column) inside))
+
+    -- a chunk with the block that a pass stands at is a chunk by the opening's own numbers
+    own-stretch : (r n : ℕ) {p : Pass} {a : Stretch} {old new : List ℕ} → c .rows ≡ n → p ≡ passed s rows (min (r / 512 + 1) (blockCount rows))
+        → StretchAs (rowIn c (blockCount rows) (p .block) s) r (chunkSize (columnRow c r) (c .window .rows - r)) a old new → StretchAs (rowAt c (o .table) s) r (chunkSize r (n - r)) a old new
+    own-stretch r n {p} long at chunk =
+        let size : chunkSize (columnRow c r) (c .window .rows - r) ≡ chunkSize r (n - r) = omega (arith, first-row, all-rows, long) in
+        stretch-for size
+        (stretch-by (rowIn c (blockCount rows) (p .block) s) (rowAt c (o .table) s) r (chunkSize (columnRow c r) (c .window .rows - r))
+        (λ x low high.
+        in-block c rows-few (o .table) s r (chunkSize (columnRow c r) (c .window .rows - r)) block-count
+        (ap (λ (q : Pass). q .block) at ∙ block-there r (omega (arith, all-rows))) (omega arith) x low high)
+        chunk)
+
+-- ---- opening
+
+-- an answer that is a column: what opening found, under the sheet too, whose column it is
+pub record Stands (sheet : ℕ) (s : List ℕ) (room : ℕ) (c : Column) (o : Loaded) : Type 0 where
+  pub under : openedUnder sheet s room ≡ value o
+  pub owns : Owns s c o
+
+pub stands : (sheet : ℕ) (s : List ℕ) (room : ℕ) {c : Column} {p : Spelling} {a : Opened} → a ≡ OpenedColumn c p → openedMeaning a ≡ columnIn (openedUnder sheet s room)
+    → (o : Loaded) × Stands sheet s room c o
+stands sheet s room {c} {p} {a} told answer = go (openedUnder sheet s room) refl (sym (ap openedMeaning told) ∙ answer)
+  where
+    go : (x : Outcome Loaded) → openedUnder sheet s room ≡ x → openedMeaning (OpenedColumn c p) ≡ columnIn x → (o : Loaded) × Stands sheet s room c o
+    go (value o) is r = (
+      o,
+      record {
+        under = is;
+        owns = record { room = room; found = accepted sheet s (opened s room) o is; column = sym (ap (λ (x : Column × Spelling). x .0) (value-same r)) };
+      },
+    )
+    go (refusal number also) is r = absurd (not-value (sym r))
+
+-- the column that some opening answered
+pub owned : {s : List ℕ} {c : Column} {p : Spelling} {a : Opened} → a ≡ OpenedColumn c p → Answers s a → (o : Loaded) × Owns s c o
+owned told f = let o = stands (f .sheet) _ (f .room) told (f .is) in
+    (o .0, o .1 .owns)
+
+-- a row of an opened column, through the table that its opening filled
+pub through : (o : Loaded) (s : List ℕ) (table after : List Block) → opened s (length table) ≡ value o → after ≡ filledBy o table
+    → (r : ℕ) → r < o .column .rows → rowAt (o .column) after s r ≡ rowAt (o .column) (o .table) s r
+through o s table after found filled r h =
+    let laid = opened-laid s (length table) o found in
+    let first : 0 ≡ o .column .window .first = ap (λ (l : Loaded). l .column .window .first) (opened-whole s (length table) o found) in
+    let inside : columnRow (o .column) r < o .column .rows = omega (arith, first) in
+    ap (λ (l : List Block). rowAt (o .column) l s r) filled
+    ∙ filled-row o table s r (laid .table) (laid .rows .present (columnRow (o .column) r) inside)
+
+-- ---- the walk over the rows
+
+-- under way by the numbers of whatever opening finds the column, with a pass over its blocks and a list of 512 entries
+pub record Turning (s : List ℕ) (c : Column) (rows : ℕ) (vs decoded : List ℕ) (p : Pass) (w : Walk) : Type 0 where
+  pub walking : (o : Loaded) → Owns s c o → Walking (rowAt c (o .table) s) vs w
+  pub long : length decoded ≡ 512
+  pub pass : Passing s rows p
+
+pub turning-starts : {s : List ℕ} {c : Column} {rows : ℕ} {vs decoded : List ℕ} {p : Pass} → p ≡ passed s rows 0 → length decoded ≡ 512
+    → Turning s c rows vs decoded p (record { at = 0; going = true })
+turning-starts {s} {c} {rows} {vs} at long = record { walking = λ o own. walking-starts (rowAt c (o .table) s) vs; long = long; pass = passing-starts at .0 }
+
+module _ {s : List ℕ} {c : Column} {o : Loaded} (own : Owns s c o) {rows : ℕ} (has : rows ≡ blocked (c .codec) (c .rows)) {vs : List ℕ} (count : c .rows ≡ length vs)
+    {decoded : List ℕ} {p : Pass} {w : Walk} (f : Turning s c rows vs decoded p w)
+    {q : Pass} (at : q ≡ passed s rows (min (w .at / 512 + 1) (blockCount rows)))
+    {a : Stretch} {new : List ℕ} (chunk : StretchAs (rowIn c (blockCount rows) (q .block) s) (w .at) (chunkSize (columnRow c (w .at)) (c .window .rows - w .at)) a decoded new) where
+  by-own : (o : Loaded) → Owns s c o → StretchAs (rowAt c (o .table) s) (w .at) (chunkSize (w .at) (length vs - w .at)) a decoded new
+  by-own o e = own-stretch e has (w .at) (length vs) count at chunk
+
+  pub turn-room : (n : ℕ) → n ≡ length vs → (counted a ≤ length new) × (w .at ≤ n) × (w .at + counted a < 2 ^ 32)
+  turn-room n is = step-room (rowAt c (o .table) s) (f .walking o own) n is (omega (arith, rows-few own)) (f .long) (by-own o own)
+
+  module _ {next : Walk} (is : next ≡ behind (counted a) (sameFront (take (counted a) new) (drop (w .at) vs)) w) where
+    pub turn-less : w .going ≡ true → left (length vs) next < left (length vs) w
+    turn-less on = step-less (rowAt c (o .table) s) (f .walking o own) (f .long) (by-own o own) is on
+
+    pub turn-again : Turning s c rows vs new q next
+    turn-again =
+        record {
+          walking = λ o e. walking-step (rowAt c (o .table) s) (f .walking o e) (f .long) (by-own o e) is;
+          long = stretch-kept chunk ∙ f .long;
+          pass = subst (λ (x : Pass). Passing s rows x) (sym at) (passing-at (rows-blocked own has) (blocks-checked own has) _ (omega arith));
+        }
 
 -- ---- the verdicts
 
-pub refused-unopened : (o : Outcome Loaded) (s vs : List ℕ) (x : Refusal) {table after : List ℕ} → OpenedAs o (Refused x) table after → CheckedAs o s vs (Unopened x) table after
-refused-unopened (value l) s vs x r = absurd (not-value (r .answer))
-refused-unopened (refusal number also) s vs x r =
-    let same : _≡_ {A = Outcome Loaded} (refusal (paper x .0) (paper x .1)) (refusal number also) = cc (r .answer) in
-    record { answer = cc; table = r .table }
+module _ (sheet : ℕ) (s : List ℕ) (room : ℕ) (vs : List ℕ) {a : Opened} (answer : openedMeaning a ≡ columnIn (openedUnder sheet s room)) where
+  pub refused-unopened : {x : Refusal} → a ≡ Refused x → checkedMeaning (Unopened x) ≡ checked (openedUnder sheet s room) s vs
+  refused-unopened {x} told = go (openedUnder sheet s room) (sym (ap openedMeaning told) ∙ answer)
+    where
+      go : (o : Outcome Loaded) → openedMeaning (Refused x) ≡ columnIn o → checkedMeaning (Unopened x) ≡ checked o s vs
+      go (value l) r = absurd (not-value r)
+      go (refusal number also) r =
+          let same : _≡_ {A = Outcome Loaded} (refusal (paper x .0) (paper x .1)) (refusal number also) = cc r in
+          cc
 
--- the counts of an opened column
-judged-counts : (o : Outcome Loaded) (l : Loaded) (s vs : List ℕ) (c : Column) (n : ℕ) → o ≡ value l → l .column ≡ c → n ≡ length vs → (c .rows ≡ n → ⊥) → failed (counts (c .rows) n) ≡ checked o s vs
-unfolding judged
-judged-counts o l s vs c n is column long other =
-    sym (rw (is, ← long, column, ne-eqb (c .rows) n other) refl)
+  module _ {c : Column} {p : Spelling} (told : a ≡ OpenedColumn c p) where
+    -- the verdict on the rows, by the opening's own numbers
+    on-rows : (o : Loaded) → Stands sheet s room c o → checked (openedUnder sheet s room) s vs ≡ judged (rowAt c (o .table) s) c vs
+    on-rows o e = ap (λ (x : Outcome Loaded). checked x s vs) (e .under) ∙ ap (λ (k : Column). judged (rowAt k (o .table) s) k vs) (e .owns .column)
 
-module _ (sheet : ℕ) (s vs table after : List ℕ) (c : Column) (p : Spelling) (answer : OpenedAs (openedUnder sheet s (length table / 4)) (OpenedColumn c p) table after) where
-  pub counts-differ : (n : ℕ) → n ≡ length vs → (c .rows ≡ n → ⊥) → CheckedAs (openedUnder sheet s (length table / 4)) s vs (Counts (c .rows) n) table after
-  counts-differ n long other =
-      let l = stands sheet s table after c p answer in
-      record { answer = judged-counts (openedUnder sheet s (length table / 4)) (l .0) s vs c n (l .1 .under) (l .1 .column) long other; table = answer .table }
+    pub counts-differ : (n : ℕ) → n ≡ length vs → (c .rows ≡ n → ⊥) → checkedMeaning (Counts (c .rows) n) ≡ checked (openedUnder sheet s room) s vs
+    unfolding judged
+    counts-differ n long other =
+        let o = stands sheet s room told answer in
+        sym (on-rows (o .0) (o .1) ∙ rw (← long, ne-eqb (c .rows) n other) refl)
 
-  pub walked-verdict : {w : Walk} {r : Checked} → c .rows ≡ length vs → Walking (rowAt c after s) vs w → w .going ≡ false → checkedMeaning r ≡ verdict c vs (w .at)
-      → CheckedAs (openedUnder sheet s (length table / 4)) s vs r table after
-  walked-verdict {w} {r} count f stops means =
-      let l = stands sheet s table after c p answer in
-      let o = l .0 in
-      let e = l .1 in
-      let same : checked (openedUnder sheet s (length table / 4)) s vs ≡ judged (rowAt c after s) c vs =
-      ap (λ (x : Outcome Loaded). checked x s vs) (e .under)
-      ∙ judged-agree (rowAt (o .column) (o .table) s) (rowAt c after s) (o .column) vs (λ x h. sym (through o s table after c (e .found) (e .column) (e .filled) x (omega arith)))
-      ∙ ap (λ (k : Column). judged (rowAt c after s) k vs) (e .column) in
-      record { answer = means ∙ sym (same ∙ walked-over (rowAt c after s) f c stops count); table = answer .table }
+    pub walked-verdict : {rows : ℕ} {decoded : List ℕ} {q : Pass} {w : Walk} {v : Verdict} → c .rows ≡ length vs → Turning s c rows vs decoded q w → w .going ≡ false
+        → v ≡ verdict c vs (w .at) → v ≡ checked (openedUnder sheet s room) s vs
+    walked-verdict count f stops means =
+        let o = stands sheet s room told answer in
+        means ∙ sym (on-rows (o .0) (o .1) ∙ walked-over (rowAt c (o .0 .table) s) (f .walking (o .0) (o .1 .owns)) c stops count)
 
 -- numbers are stored as they are
-pub numbers-checked : {o : Outcome Loaded} {s vs : List ℕ} {r : Checked} {table after : List ℕ} → CheckedAs o s (storedAs U64 vs) r table after → CheckedAs o s vs r table after
+pub numbers-checked : {o : Outcome Loaded} {s vs : List ℕ} {r : Checked} {table after : List Block} → CheckedAs o s (storedAs U64 vs) r table after → CheckedAs o s vs r table after
 numbers-checked {o} {s} {vs} {r} {table} {after} f = subst (λ (l : List ℕ). CheckedAs o s l r table after) (stored-numbers vs) f

@@ -3,11 +3,11 @@ ghost use mathlib.Core.Path.{_≡_};
 ghost use Prim.Native.Nat.{_+_, _^_, _≤_, _<_};
 ghost use lib.ListN.{length, take, drop};
 ghost use Rattle.format.specs.Typed.{storedAs};
-ghost use Rattle.reading.specs.Stretch.{counted};
+ghost use Rattle.chunks.specs.Stretch.{counted};
 ghost use Rattle.checking.specs.Walks.{sameFront, behind};
+use chunks::taking::Stretch;
+use chunks::taking::values_of;
 use format::Kind;
-use reading::taking::Stretch;
-use reading::taking::values_of;
 
 // A walk over the rows: all before `at` are the list's values. It goes on while no other was met, up to a chunk that has no values.
 pub struct Walk {

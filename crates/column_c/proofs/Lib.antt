@@ -1,6 +1,4 @@
-pub mod Columns
 pub mod Answering
-pub mod Naming
-pub mod Reporting
-pub mod Judging
-pub mod Telling
+pub mod Joining
+pub mod Ranges
+pub mod Types

@@ -4,34 +4,14 @@
 ghost use mathlib.Core.Path.{_≡_};
 ghost use lib.ListN.{length};
 ghost use Rattle.format.specs.Typed.{signedOf, flagOf, floatOf, signedRange, flagRange, floatRange};
-ghost use Rattle.column_c.specs.Numbers.{Lists, States};
-ghost use Rattle.column_c.specs.Typed.{kindFrom, knownMeaning, statedFrom, writtenFrom, rangeNumbers};
-use crate::ACCEPTED;
-use crate::told;
-use format::Kind;
-use format::Refusal;
+ghost use Rattle.plain.specs.Numbers.{States};
+ghost use Rattle.column_c.specs.Calls.{statedFrom, writtenFrom, rangeNumbers, Lists};
 use format::Stated;
 use format::Written;
-
-// A kind that a caller names by its number.
-pub enum Known {
-    Kind(Kind),
-    Refused(Refusal),
-}
-
-// The kind of a number, if it is one.
-pub(crate) fn kind_from(number: u32) -> Known
-    ensures { λ r. ⌜ knownMeaning r ≡ kindFrom number ⌝ }
-{
-    match number {
-        0 => Known::Kind(Kind::U64),
-        1 => Known::Kind(Kind::I64),
-        2 => Known::Kind(Kind::Date),
-        3 => Known::Kind(Kind::Bool),
-        4 => Known::Kind(Kind::F64),
-        _ => Known::Refused(Refusal::Unfit),
-    }
-}
+use plain::ACCEPTED;
+use plain::kinds::Known;
+use plain::kinds::kind_from;
+use plain::told;
 
 // ---- writing
 

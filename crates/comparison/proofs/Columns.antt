@@ -7,28 +7,26 @@
 --     lacks-left, lacks-right            a row of one side only has a line
 -- Assumes nothing.
 use Prim.Native.Nat.{ℕ, _/_, _≤_, _<_, max}
-use mathlib.Core.Path.{_≡_, refl, sym, ap, _∙_, subst}
+use mathlib.Core.Path.{_≡_, refl, sym, ap, _∙_}
 use mathlib.Core.Bool.{Bool, true, false}
-use mathlib.Core.Logic.{_↔_, _⊎_, inl, inr, ⊎-elim}
-use mathlib.Core.List.{List, [], _∷_, _++_}
+use mathlib.Core.Logic.{_↔_, inl, inr, ⊎-elim}
+use mathlib.Core.List.{List, [], _++_}
 use native.Mathlib.Omega.{arith}
 use borrow.Author.Tests.{eqb-true}
-use lib.ListN.{length, replicate, length-replicate}
+use lib.ListN.{length}
 use Rattle.format.specs.Outcome.{Outcome, Outcome.value, Outcome.refusal}
-use Rattle.format.specs.Opening.{Loaded, opened}
-use Rattle.format.specs.Reading.{rowAt}
-use Rattle.format.specs.Windows.{whole}
-use Rattle.format.specs.Demands.{answered}
+use Rattle.format.specs.Opening.{Loaded}
+use Rattle.format.specs.Reading.{columnRow, blockAt, packedOf, rowAt}
 use Rattle.format.specs.Listing.{ascii, namedLine, openedHere}
 use Rattle.format.specs.Comparing.{equalAnswers, compared, comparison}
-use Rattle.format.proofs.Laid.{opened-laid, opened-whole}
+use Rattle.format.proofs.Laid.{opened-laid}
 use Rattle.format.proofs.Lists.{below-or}
-use Rattle.format.proofs.Rows.{own-row}
+use Rattle.format.proofs.Rows.{row-answers, ValueOr14, value-or-14}
 use Rattle.text.specs.Chunk.{chunks}
 use Rattle.text.specs.Own.{ownRow}
 use Rattle.text.proofs.Chunks.{chunk-within}
 use Rattle.text.proofs.Limits.{here-opened}
-use Rattle.text.proofs.Rows.{here-rows, here-lacking, here-answers, own-reads, own-sayable}
+use Rattle.text.proofs.Rows.{here-rows, here-lacking, own-reads, own-sayable}
 use Rattle.comparison.specs.Beginning.{onlyLine}
 use Rattle.comparison.specs.Chunk.{pairMax, textOf, pairChunk, lineCounts}
 use Rattle.comparison.proofs.RowLines.{text-most}
@@ -36,29 +34,21 @@ use Rattle.comparison.proofs.Comparisons.{equal-self, nothing-differs, 
 
 -- ---- one column
 
--- what a row of a column that opens answers: a value, or 14
-abbrev Own : (r : ℕ) → Outcome ℕ → Type 0
-Own r o = ((v : ℕ) × (o ≡ value v)) ⊎ (o ≡ refusal 14 (r ∷ []))
-
 module _ (s : List ℕ) (o : Loaded) (found : openedHere s ≡ value o) where
-  -- reading by the opening's own numbers
+  -- reading by the opening's own blocks
   abbrev reading : ℕ → Outcome ℕ
   reading r = rowAt (o .column) (o .table) s r
 
-  -- a row of its own, whichever table was lent
-  own-by : (table : List ℕ) → length table ≡ 8192 → (r : ℕ) → r < o .column .rows → Own r (reading r)
-  own-by table long r h =
-      let room : 2048 ≡ length table / 4 = omega arith in
-      let opens : opened s (length table / 4) ≡ value o = rw (← room) (here-opened s o found) in
-      rw (← here-answers s o found table (omega arith) r)
-      (subst (λ (l : Loaded). Own r (answered l table s r)) (opened-whole s (length table / 4) o opens) (own-row s table o opens (whole o) (omega arith) r h))
-
-  own : (r : ℕ) → r < o .column .rows → Own r (reading r)
-  own = own-by (replicate {A = ℕ} 8192 0) (length-replicate {A = ℕ} 8192 0)
+  own : (r : ℕ) → r < o .column .rows → ValueOr14 r (reading r)
+  own r h =
+      let q = columnRow (o .column) r in
+      let b = blockAt (o .table) (q / 512) in
+      rw (row-answers (opened-laid s 2048 o (here-opened s o found)) s (omega arith) r (omega (arith, here-rows s o found)))
+      (value-or-14 (o .column .codec) (o .column) b r q (packedOf (o .column) b s q))
 
 -- ---- two answers
 
-same-own : (r : ℕ) (a b : Outcome ℕ) → Own r a → Own r b → equalAnswers a b ≡ true → a ≡ b
+same-own : (r : ℕ) (a b : Outcome ℕ) → ValueOr14 r a → ValueOr14 r b → equalAnswers a b ≡ true → a ≡ b
 same-own r a b (inl v) (inl w) e =
     let same : v .0 ≡ w .0 = eqb-true (v .0) (w .0) (rw (v .1, w .1) at e) in
     v .1 ∙ ap value same ∙ sym (w .1)
@@ -67,7 +57,7 @@ same-own r a b (inr v) (inl w) e = absurd (let z : false ≡ true = rw (v, w .1)
 same-own r a b (inr v) (inr w) e = v ∙ sym w
 
 -- an answer of a row that is there is no 12
-no-absent : (r : ℕ) (b : Outcome ℕ) → Own r b → (equalAnswers (refusal 12 []) b ≡ false) × (equalAnswers b (refusal 12 []) ≡ false)
+no-absent : (r : ℕ) (b : Outcome ℕ) → ValueOr14 r b → (equalAnswers (refusal 12 []) b ≡ false) × (equalAnswers b (refusal 12 []) ≡ false)
 no-absent r b (inl w) = rw (w .1) (refl, refl)
 no-absent r b (inr w) = rw w (refl, refl)
 

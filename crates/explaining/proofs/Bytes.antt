@@ -6,10 +6,10 @@ use Prim.Native.Nat.{ℕ, _+_, _≤_, _<_}
 use mathlib.Core.Path.{_≡_, refl, sym}
 use mathlib.Core.Bool.{true, false}
 use mathlib.Core.List.{List, [], _∷_}
-use mathlib.Core.Option.{Option, none, some}
-use native.Mathlib.Omega.{arith}
+use mathlib.Core.Option.{none, some}
 use lib.ListN.{length}
 use borrow.Author.Tests.{lt-ltb, le-ltb, le-leb}
+use Rattle.format.specs.declared.Block.{Block}
 use Rattle.format.specs.declared.Column.{Column}
 use Rattle.format.specs.declared.Part.{Part}
 use Rattle.format.specs.declared.Owners.{Owners}
@@ -19,7 +19,7 @@ use Rattle.format.specs.Parts.{partsOf, partAt, ownersAt}
 use Rattle.format.specs.Blame.{holding}
 use Rattle.format.proofs.Laid.{opened-laid}
 use Rattle.format.proofs.Parts.{all-parted}
-use Rattle.explaining.specs.Bytes.{fitsAt, found, partOf, rowsOf}
+use Rattle.explaining.specs.Bytes.{fitsAt, partOf, rowsOf}
 
 module _ (s : List ℕ) (col : Column) (i : ℕ) where
   pub part-unfit : fitsAt s col i ≡ false → refusal 13 [] ≡ partOf s col i
@@ -34,11 +34,11 @@ module _ (s : List ℕ) (col : Column) (i : ℕ) where
   unfolding partOf
   part-nowhere e there = rw (e, there)
 
-  pub rows-unfit : (t : List ℕ) → fitsAt s col i ≡ false → refusal 13 [] ≡ rowsOf s col t i
+  pub rows-unfit : (t : List Block) → fitsAt s col i ≡ false → refusal 13 [] ≡ rowsOf s col t i
   unfolding rowsOf
   rows-unfit t e = rw e
 
-  pub rows-found : (t : List ℕ) → fitsAt s col i ≡ true → (o : Owners) → o ≡ ownersAt col t i → value o ≡ rowsOf s col t i
+  pub rows-found : (t : List Block) → fitsAt s col i ≡ true → (o : Owners) → o ≡ ownersAt col t i → value o ≡ rowsOf s col t i
   unfolding rowsOf
   rows-found t e o is = rw (e, is)
 

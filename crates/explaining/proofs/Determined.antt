@@ -4,9 +4,8 @@
 use Prim.Native.Nat.{ℕ}
 use mathlib.Core.Path.{_≡_, sym, ap, _∙_}
 use mathlib.Core.List.{List}
+use Rattle.format.specs.declared.Block.{Block}
 use Rattle.format.specs.declared.Column.{Column}
-use Rattle.format.specs.declared.Part.{Part}
-use Rattle.format.specs.declared.Owners.{Owners}
 use Rattle.format.proofs.Outcomes.{value-same}
 use Rattle.format.proofs.Answers.{numbered-injective}
 use Rattle.explaining.specs.declared.Cursor.{Cursor}
@@ -38,6 +37,6 @@ pub part-determined : (s : List ℕ) (col : Column) (i : ℕ) (a b : PartRead) �
 part-determined s col i a b p q = part-injective a b (p ∙ sym q)
 
 -- and of `rows_at`
-pub rows-determined : (s : List ℕ) (col : Column) (t : List ℕ) (i : ℕ) (a b : RowsRead)
+pub rows-determined : (s : List ℕ) (col : Column) (t : List Block) (i : ℕ) (a b : RowsRead)
     → rowsMeaning a ≡ rowsOf s col t i → rowsMeaning b ≡ rowsOf s col t i → a ≡ b
 rows-determined s col t i a b p q = rows-injective a b (p ∙ sym q)

@@ -2,6 +2,8 @@
 pub mod Names
 pub mod Seeking
 pub mod Runs
+pub mod Searches
+pub mod Rounds
 pub mod Measures
 pub mod Bytes
 pub mod Determined

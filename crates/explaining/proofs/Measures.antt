@@ -7,7 +7,6 @@ use mathlib.Core.List.{List}
 use lib.ListN.{length}
 use Rattle.format.specs.declared.Column.{Column}
 use Rattle.format.specs.declared.PartName.{PartName}
-use Rattle.format.specs.declared.Part.{Part}
 use Rattle.format.specs.declared.Shape.{Shape}
 use Rattle.format.specs.Parts.{shapeOf, extent, spelled, partHere}
 use Rattle.explaining.specs.declared.measuring.Measured.{Measured}

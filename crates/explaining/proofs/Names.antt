@@ -11,12 +11,11 @@ use mathlib.Core.Path.{_≡_, refl, sym, ap, _∙_}
 use mathlib.Core.Option.{Option, none, some}
 use mathlib.Core.List.{List, [], _∷_, _++_}
 use native.Mathlib.Omega.{arith}
-use native.Mathlib.Numerals.{add-one}
 use lib.ListN.{length, drop, length-append}
 use Rattle.format.specs.declared.Codec.{Codec}
 use Rattle.format.specs.declared.Codec.the-variants.{Bitpacked, Linear, Blockwise}
 use Rattle.format.specs.declared.PartName.{PartName}
-use Rattle.format.specs.declared.PartName.the-variants.{Area, Behind, BlockSlope, BlockIntercept, BlockWidth, Spare, FooterLength}
+use Rattle.format.specs.declared.PartName.the-variants.{BlockSlope, BlockIntercept, BlockWidth, Spare, FooterLength}
 use Rattle.format.specs.Bodies.{blockCount}
 use Rattle.format.specs.Parts.{headNames, names, blockNames}
 use Rattle.explaining.specs.declared.naming.Name.{Name}

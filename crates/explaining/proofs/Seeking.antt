@@ -4,7 +4,7 @@
 --     sought-part, sought-none                                                            what a search says
 -- Assumes nothing.
 use Prim.Native.Nat.{ℕ, _+_, _-_, _≤_, _<_}
-use mathlib.Core.Path.{_≡_, refl, sym, ap, _∙_, subst}
+use mathlib.Core.Path.{_≡_, refl, sym, ap, _∙_}
 use mathlib.Core.Option.{Option, none, some}
 use mathlib.Core.List.{List, [], _∷_}
 use native.Mathlib.Omega.{arith}
@@ -15,7 +15,6 @@ use Rattle.format.specs.declared.Part.{Part}
 use Rattle.format.specs.declared.PartName.{PartName}
 use Rattle.format.specs.Parts.{names, partHere, partEnd, partsFrom, partIn, partAt}
 use Rattle.explaining.specs.declared.Cursor.{Cursor}
-use Rattle.explaining.specs.declared.Walked.{Walked}
 use Rattle.explaining.specs.declared.Walked.the-variants.{Part as At, Done}
 use Rattle.explaining.specs.declared.Sought.{Sought}
 use Rattle.explaining.specs.declared.Sought.the-variants.{Part as Held, Nothing as Nowhere}

@@ -6,6 +6,7 @@ use mathlib.Core.List.{List, []}
 use mathlib.Core.Option.{Option, none, some}
 use lib.Dec.{ltb, leb}
 use lib.ListN.{length}
+use Rattle.format.specs.declared.Block.{Block}
 use Rattle.format.specs.declared.Column.{Column}
 use Rattle.format.specs.declared.Part.{Part}
 use Rattle.format.specs.declared.Owners.{Owners}
@@ -31,7 +32,7 @@ unfoldable pub partOf : (s : List ℕ) → Column → (i : ℕ) → Outcome Part
 partOf s col i = demand (fitsAt s col i) 13 [] >> found (partAt s col i)
 
 -- the rows that own a bit of it
-unfoldable pub rowsOf : (s : List ℕ) → Column → (table : List ℕ) (i : ℕ) → Outcome Owners
+unfoldable pub rowsOf : (s : List ℕ) → Column → (table : List Block) (i : ℕ) → Outcome Owners
 rowsOf s col t i = demand (fitsAt s col i) 13 [] >> value (ownersAt col t i)
 
 -- what asking for the part found

@@ -2,12 +2,13 @@
 // bit of a byte. The calls take an opened column with its bytes, and ask nothing of them: what does not fit together at an offset is refused.
 mod measuring;
 mod naming;
-mod owning;
+pub mod owning;
 
 ghost use mathlib.Core.Path.{_≡_};
 ghost use Rattle.format.specs.Parts.{partAt};
 ghost use Rattle.explaining.specs.Walk.{walked, sought};
 ghost use Rattle.explaining.specs.Bytes.{fitsAt, partOf, rowsOf, partMeaning, rowsMeaning};
+use format::Block;
 use format::Column;
 use format::Owners;
 use format::Part;
@@ -105,13 +106,16 @@ pub fn part_at(column: Column, bytes: &[u8], offset: usize) -> PartRead
     }
 }
 
-// The rows that own a bit of the byte at an offset, from the first to the last. None does before the packed area, behind it, and where a byte of it has filling
-// bits only.
-pub fn rows_at(column: Column, table: &[u64], bytes: &[u8], offset: usize) -> RowsRead
+// The rows that own a bit of the byte at an offset, from the first to the last, with the column's table. None does before the packed area, behind it, and where a
+// byte of it has filling bits only.
+pub fn rows_at(column: Column, table: &[Block], bytes: &[u8], offset: usize) -> RowsRead
     ensures { λ r. ⌜ rowsMeaning r ≡ rowsOf (now (bytes .entry)) column (now (table .entry)) offset ⌝ }
 {
-    if !fits_at(column, bytes, offset) {
-        return RowsRead::Refused(Refusal::Unfit);
+    let mut search = owning::begin(column, bytes, offset);
+    while 0 < search.left {
+        let k = search.next;
+        let block = records::block_at(table, k);
+        search = owning::step(column, block, search);
     }
-    RowsRead::Owners(owning::owners_at(column, table, offset))
+    search.answer
 }

@@ -1,12 +1,26 @@
-// Which rows own a bit of a byte of the packed area.
+// Which rows own a bit of a byte of the packed area: a search, block after block. The table is walked by whoever searches; here a block comes by value.
 ghost use mathlib.Core.Path.{_≡_};
-ghost use Prim.Native.Nat.{_+_, _*_, _^_, _<_, min};
+ghost use mathlib.Core.List.{List};
+ghost use Prim.Native.Nat.{ℕ, _+_, _-_, _*_, _^_, _<_, min};
 ghost use Rattle.format.specs.Packing.{legal};
-ghost use Rattle.format.specs.Bodies.{blockCount};
-ghost use Rattle.format.specs.Parts.{runOwners, blockRun, blockOwners, ownersAt};
+ghost use Rattle.format.specs.Reading.{blockAt};
+ghost use Rattle.format.specs.Parts.{runOwners};
+ghost use Rattle.explaining.specs.Bytes.{rowsOf};
+ghost use Rattle.explaining.specs.Search.{ended, areaSearch, searched, Searching};
+use crate::RowsRead;
+use format::Block;
 use format::Codec;
 use format::Column;
 use format::Owners;
+use format::Refusal;
+
+// A search for the rows of a byte of the area: the next block to ask, how many are left, and the answer if none of them has rows there.
+pub struct Search {
+    pub next: usize,
+    pub left: u32,
+    pub byte: u64,
+    pub answer: RowsRead,
+}
 
 // Whether a width is legal.
 fn is_legal(bits: u64) -> bool
@@ -54,47 +68,80 @@ fn block_rows(left: u32) -> u32
 }
 
 // Internal: asks for a block that has rows. The same of block `k`, of so many rows in all.
-fn block_run(table: &[u64], rows: u32, k: u32, j: u64) -> Owners
+fn block_run(block: Block, rows: u32, k: usize, j: u64) -> Owners
     requires { ⌜ 512 * k < rows ⌝ }
-    ensures { λ r. ⌜ r ≡ runOwners (blockRun (now (table .entry)) rows k) j ⌝ }
+    ensures { λ r. ⌜ r ≡ runOwners (record { start = block .start; bits = block .bits; first = 512 * k; rows = min (rows - 512 * k) 512 }) j ⌝ }
 {
-    let block = blockwise_linear::reader::block_at(table, k as usize);
-    let first = 512 * k;
+    let first = 512 * (k as u32);
     let here = block_rows(rows - first);
     run_owners(block.start, block.bits, first, here, j)
 }
 
-// The same over all blocks: the first that has rows there decides.
-fn block_owners(table: &[u64], rows: u32, j: u64) -> Owners
-    ensures { λ r. ⌜ r ≡ blockOwners (now (table .entry)) rows 0 (blockCount rows) j ⌝ }
+// A search that is over, with its answer.
+fn over(answer: RowsRead) -> Search
+    ensures { λ r. ⌜ r ≡ ended answer ⌝ }
 {
-    let blocks = crate::naming::block_count(rows);
-    let mut k: u32 = 0;
-    while k < blocks {
-        let owners = block_run(table, rows, k, j);
-        if let Owners::Rows { first: _, last: _ } = owners {
-            return owners;
-        }
-        k += 1;
+    Search {
+        next: 0,
+        left: 0,
+        byte: 0,
+        answer,
     }
-    Owners::NoRow
 }
 
-// By the codec, from the start of the area on.
-pub(crate) fn owners_at(column: Column, table: &[u64], offset: usize) -> Owners
-    ensures { λ r. ⌜ r ≡ ownersAt column (now (table .entry)) offset ⌝ }
+// By the codec, for a byte of the area: one run is all that Bitpacked and Linear have, so their search is over at once.
+fn begin_at(column: Column, byte: u64) -> Search
+    ensures { λ r. ⌜ r ≡ areaSearch (column .codec) (column .count) (column .rows) byte ⌝ }
 {
-    if offset < column.start {
-        return Owners::NoRow;
-    }
-    let byte = (offset - column.start) as u64;
     let codec = column.codec;
     match codec {
         Codec::Bitpacked => {
             let bits = word::wide(bitpacker::compute_num_bits(column.count));
-            run_owners(0, bits, 0, column.rows, byte)
+            over(RowsRead::Owners(run_owners(0, bits, 0, column.rows, byte)))
         }
-        Codec::Linear(_, bits) => run_owners(0, word::wide(bits), 0, column.rows, byte),
-        Codec::Blockwise => block_owners(table, column.rows, byte),
+        Codec::Linear(_, bits) => over(RowsRead::Owners(run_owners(
+            0,
+            word::wide(bits),
+            0,
+            column.rows,
+            byte,
+        ))),
+        Codec::Blockwise => Search {
+            next: 0,
+            left: crate::naming::block_count(column.rows),
+            byte,
+            answer: RowsRead::Owners(Owners::NoRow),
+        },
+    }
+}
+
+// How a search begins: before the area no row has a bit.
+pub fn begin(column: Column, bytes: &[u8], offset: usize) -> Search
+    ensures { λ r. ⌜ Searching (column .rows) r × ((table : List Block) → searched table (column .rows) r ≡ rowsOf (now (bytes .entry)) column table offset) ⌝ }
+{
+    if !crate::fits_at(column, bytes, offset) {
+        return over(RowsRead::Refused(Refusal::Unfit));
+    }
+    if offset < column.start {
+        return over(RowsRead::Owners(Owners::NoRow));
+    }
+    begin_at(column, (offset - column.start) as u64)
+}
+
+// Internal: asks for a search that is not over. The next block is asked: one that has rows there decides.
+pub fn step(column: Column, block: Block, search: Search) -> Search
+    requires { ⌜ Searching (column .rows) search × (0 < search .left) ⌝ }
+    ensures { λ r. ⌜ Searching (column .rows) r × ((table : List Block) → block ≡ blockAt table (search .next) → searched table (column .rows) r ≡ searched table (column .rows) search) ⌝ }
+    ensures { λ r. ⌜ r .left < search .left ⌝ }
+{
+    let owners = block_run(block, column.rows, search.next, search.byte);
+    if let Owners::Rows { first: _, last: _ } = owners {
+        return over(RowsRead::Owners(owners));
+    }
+    Search {
+        next: search.next + 1,
+        left: search.left - 1,
+        byte: search.byte,
+        answer: RowsRead::Owners(owners),
     }
 }

@@ -2,6 +2,7 @@
 -- Assumes nothing.
 use Prim.Native.Nat.{ℕ}
 use mathlib.Core.List.{List, [], _∷_, _++_, map}
+use Rattle.format.specs.declared.Block.{Block}
 use Rattle.format.specs.declared.Codec.{Codec}
 use Rattle.format.specs.declared.Codec.the-variants.{Bitpacked, Linear, Blockwise}
 use Rattle.format.specs.declared.Column.{Column}
@@ -38,10 +39,10 @@ pub data Asked : Type 0 where
   spelled : List ℕ → ℕ → Asked
   sheet : ℕ → List ℕ → ℕ → Asked
   reading : List ℕ → ℕ → ℕ → Asked
-  made : Column → List ℕ → List ℕ → ℕ → Asked
-  run : Column → List ℕ → List ℕ → ℕ → ℕ → Asked
+  made : Column → List Block → List ℕ → ℕ → Asked
+  run : Column → List Block → List ℕ → ℕ → ℕ → Asked
   looking : List ℕ → ℕ → ℕ → ℕ → ℕ → ℕ → Asked
-  lookup : Column → List ℕ → List ℕ → ℕ → ℕ → ℕ → ℕ → ℕ → Asked
+  lookup : Column → List Block → List ℕ → ℕ → ℕ → ℕ → ℕ → ℕ → Asked
   narrowing : Column → ℕ → ℕ → Asked
   returning : List ℕ → List ℕ → ℕ → Asked
   limited : List ℕ → Asked
@@ -60,10 +61,18 @@ codecNumbers Bitpacked = 0 ∷ []
 codecNumbers (Linear l w) = 1 ∷ l .slope ∷ l .intercept ∷ w ∷ []
 codecNumbers Blockwise = 2 ∷ []
 
+-- a block of a made-up table; and the blocks of a table as numbers, four a block
+abbrev pub block : (slope intercept bits start : ℕ) → Block
+block slope intercept bits start = record { line = record { slope = slope; intercept = intercept }; bits = bits; start = start }
+
+abbrev pub tableNumbers : List Block → List ℕ
+tableNumbers [] = []
+tableNumbers (b ∷ bs) = b .line .slope ∷ b .line .intercept ∷ b .bits ∷ b .start ∷ tableNumbers bs
+
 abbrev pub numbersOf : Loaded → List ℕ
 numbersOf o =
     o .column .minimum ∷ o .column .gcd ∷ o .column .count ∷ o .column .rows ∷ o .column .start ∷ o .column .size
-    ∷ (codecNumbers (o .column .codec) ++ o .table)
+    ∷ (codecNumbers (o .column .codec) ++ tableNumbers (o .table))
 
 -- a spelling as a list: the offset of the first longer one, or nothing
 abbrev pub longerAt : Spelling → List ℕ

@@ -7,9 +7,8 @@ use Prim.Native.Nat.{ℕ, _+_, _*_, _/_, _%_, _≤_, _<_}
 use mathlib.Core.Path.{_≡_, sym, ap, _∙_, subst}
 use mathlib.Core.Logic.{_⊎_, inl, inr, ⊎-elim}
 use mathlib.Core.List.{List}
-use native.Mathlib.Nat.{mul-comm}
 use native.Mathlib.Omega.{arith}
-use lib.ListN.{length, take, drop, getD}
+use lib.ListN.{length, drop, getD}
 use lib.Seq.{getD-take, getD-drop}
 use Rattle.format.specs.declared.Owners.{Owners}
 use Rattle.format.specs.declared.Owners.the-variants.{Rows, NoRow}
@@ -19,7 +18,7 @@ use Rattle.format.specs.Opening.{Loaded, opened}
 use Rattle.format.specs.Windows.{whole, inWindow}
 use Rattle.format.specs.Parts.{ownersAt}
 use Rattle.format.specs.Demands.{Owns, SameBits, Differ, answered}
-use Rattle.format.specs.Blame.{Named, SameFields, Untouched, Blames, Blame, OnlyAt, BlameOne, BlameNone}
+use Rattle.format.specs.Blame.{Named, Untouched, Blame, BlameOne, BlameNone}
 use Rattle.format.proofs.Lists.{below-or}
 use Rattle.format.proofs.Bits.{rowsBits-at}
 use Rattle.format.proofs.Laid.{opened-whole}
@@ -61,10 +60,10 @@ module _ (s t : List ℕ) (room : ℕ) (o : Loaded) (e : opened s room ≡ value
 
 pub blame : Blame
 blame s t table other o p so tp f =
-    let told = rows-told s t table other o p so tp (f .long) (opened-same s t (length table / 4) (length other / 4) o p so tp f) in
+    let told = rows-told s t table other o p so tp (f .long) (opened-same s t (length table) (length other) o p so tp f) in
     -- both are seen whole
     let here : (r : ℕ) → r ≡ 0 + r = (λ (r : ℕ). omega arith) in
-    let left : inWindow o (whole o) ≡ o = opened-whole s (length table / 4) o so in
+    let left : inWindow o (whole o) ≡ o = opened-whole s (length table) o so in
     let right : inWindow p (whole o) ≡ p = ap (λ (q : Loaded). inWindow q (whole o)) (sym (told .same)) ∙ left ∙ told .same in
     let agree : (r : ℕ) → r < o .column .rows → SameBits o s t r → answered o table s r ≡ answered p other t r =
     (λ (r : ℕ) (h : r < o .column .rows) (bits : SameBits o s t r).
@@ -72,8 +71,8 @@ blame s t table other o p so tp f =
     record {
       same = told .same;
       untouched = λ (r : ℕ) (h : r < o .column .rows) (same : Untouched o s t r).
-          agree r h (bytes-agree s t (length table / 4) o so (f .long) r h
-          (λ (k : ℕ) (own : Owns o r k). same (k / 8) (names s t (length table / 4) o so (f .long) r h k own)));
+          agree r h (bytes-agree s t (length table) o so (f .long) r h
+          (λ (k : ℕ) (own : Owns o r k). same (k / 8) (names s t (length table) o so (f .long) r h k own)));
       agree = agree;
       differ = λ (r : ℕ) (h : r < o .column .rows) (bits : SameBits o s t r → ⊥).
           subst (λ (q : Loaded). Differ r (answered q table s r) (answered p other t r)) left
@@ -105,5 +104,5 @@ blame-one s t room o e len i only r h differs =
 
 pub blame-none : BlameNone
 blame-none s t table other o p so tp f area r h =
-    blame s t table other o p so tp f .agree r h (bytes-agree s t (length table / 4) o so (f .long) r h (λ (k : ℕ) (own : Owns o r k).
-    area (k / 8) (omega (arith, rows-inside s (length table / 4) o so r k h own .1))))
+    blame s t table other o p so tp f .agree r h (bytes-agree s t (length table) o so (f .long) r h (λ (k : ℕ) (own : Owns o r k).
+    area (k / 8) (omega (arith, rows-inside s (length table) o so r k h own .1))))

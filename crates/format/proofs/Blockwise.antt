@@ -1,4 +1,4 @@
--- Blockwise's round trip (`blockwise-round`), what its column opens to (`blockwise-opens`), and each block's numbers (`blockwise-table`).
+-- Blockwise's round trip (`blockwise-round`), what its column opens to (`blockwise-opens`), and each block of its table (`blockwise-table`).
 -- Assumes nothing.
 use mathlib.Core.Path.{_≡_, refl, sym, ap, ap₂, _∙_}
 use mathlib.Core.Option.{none}
@@ -9,6 +9,7 @@ use native.Mathlib.Omega.{arith}
 use lib.ListN.{length, take, drop, getD, length-append, length-take, length-drop}
 use lib.Seq.{drop-append-seam, take-at}
 use borrow.Author.Tests.{le-leb}
+use Rattle.format.specs.declared.Block.{Block}
 use Rattle.format.specs.declared.Codec.the-variants.{Blockwise}
 use Rattle.format.specs.declared.Head.{Head}
 use Rattle.format.specs.declared.Line.{Line}
@@ -29,7 +30,7 @@ use Rattle.format.proofs.Openings.{Begun, blockwiseOf, footerEnd, opens
 use Rattle.format.proofs.Sheets.{unclaimed-none, clean-column}
 use Rattle.format.proofs.LastBlocks.{lastWidth, last-width, read-last, last-bits, last-clean}
 use Rattle.format.proofs.RoundTrip.{RoundTrips, begins}
-use Rattle.format.proofs.WrittenBlocks.{length-blocks, joined-most, block-back, entry-most, numbersFrom, read-blocks, BlockAt, blockOf, laterOf, parted, row-inside-block, row-of-block, table-block, area-block}
+use Rattle.format.proofs.WrittenBlocks.{length-blocks, joined-most, block-back, entry-most, blockFor, tableFrom, read-blocks, blockOf, laterOf, parted, row-inside-block, row-of-block, table-block, area-block}
 
 -- ---- opening and reading, over any bytes of the right shape
 
@@ -72,12 +73,12 @@ ends-with s front foot count rows bits at e small read =
     rw (end, told, cut, from, read)
 
 -- a row whose block stands in the table reads as the multiple that line and packed number make
-block-value : (h : Head) (at size : ℕ) (t s : List ℕ) (r : ℕ) (l : Line) (w start multiple : ℕ) → BlockAt t (r / 512) l w start
+block-value : (h : Head) (at size : ℕ) (t : List Block) (s : List ℕ) (r : ℕ) (l : Line) (w start multiple : ℕ) → blockAt t (r / 512) ≡ record { line = l; bits = w; start = start }
     → modAdd (lineAt l (r % 512)) (unpack w (drop (at + start) s) (r % 512)) ≡ multiple → multiple ≤ h .count
     → valueIn Blockwise (columnOf h at size Blockwise) (blockAt t (r / 512)) r (packedOf (columnOf h at size Blockwise) (blockAt t (r / 512)) s r) ≡ value (h .minimum + h .gcd * multiple)
 unfolding placeIn packedOf valueIn
 block-value h at size t s r l w start multiple b makes within =
-    rw (b .slope, b .intercept, b .bits, b .begins, makes, le-leb multiple (h .count) within)
+    rw (b, makes, le-leb multiple (h .count) within)
 
 -- ---- a list's column
 
@@ -104,7 +105,7 @@ module _ (vs : List ℕ) where
   column-is = refl
 
   abbrev pub opens : Loaded
-  opens = record { column = columnOf (writtenHead vs) (1 + length (headBytes vs)) (length area) Blockwise; table = numbersFrom 0 parts; spelling = Shortest }
+  opens = record { column = columnOf (writtenHead vs) (1 + length (headBytes vs)) (length area) Blockwise; table = tableFrom 0 parts; spelling = Shortest }
 
   blocks-many : length parts ≡ blockCount (length vs)
   unfolding blocks
@@ -116,7 +117,7 @@ module _ (vs : List ℕ) where
   foot-short few = omega (arith, joined-most blockEntry 21 entry-most parts, blocks-many)
 
   -- the footer is read as the table, whatever stands before it
-  foot-read : (front : List ℕ) → readBlocks (blockCount (length vs)) (front ++ foot) (length front) 0 (length vs) ≡ value (record { numbers = numbersFrom 0 parts; area = length area; spelling = Shortest })
+  foot-read : (front : List ℕ) → readBlocks (blockCount (length vs)) (front ++ foot) (length front) 0 (length vs) ≡ value (record { blocks = tableFrom 0 parts; area = length area; spelling = Shortest })
   unfolding blocks
   foot-read front =
       ap (λ (n : ℕ). readBlocks (blockCount n) (front ++ foot) (length front) 0 n) (sym (multiples-length vs))
@@ -173,8 +174,8 @@ module _ (vs : List ℕ) where
     value-in : (more : List ℕ) (before : List (List ℕ)) (block : List ℕ) (after : List (List ℕ)) (r : ℕ) → r < length vs
         → length before ≡ r / 512 → r % 512 < length block → getD block (r % 512) 0 ≡ getD ns r 0
         → (let col = columnOf (writtenHead vs) (1 + length (headBytes vs)) (length (joined blockArea (before ++ (block ∷ after)))) Blockwise in
-        let numbers = numbersFrom 0 (before ++ (block ∷ after)) in
-        valueIn Blockwise col (blockAt numbers (r / 512)) r (packedOf col (blockAt numbers (r / 512)) (2 ∷ (headBytes vs ++ (joined blockArea (before ++ (block ∷ after)) ++ more))) r) ≡ readsAs vs r)
+        let table = tableFrom 0 (before ++ (block ∷ after)) in
+        valueIn Blockwise col (blockAt table (r / 512)) r (packedOf col (blockAt table (r / 512)) (2 ∷ (headBytes vs ++ (joined blockArea (before ++ (block ∷ after)) ++ more))) r) ≡ readsAs vs r)
     value-in more before block after r h place inside row =
         let head = headBytes vs in
         let areas = joined blockArea (before ++ (block ∷ after)) in
@@ -184,7 +185,7 @@ module _ (vs : List ℕ) where
         let here : drop (1 + length head + start) bytes ≡ blockArea block ++ (joined blockArea after ++ more) =
         ap (λ (n : ℕ). drop n bytes) at ∙ area-block before block after (2 ∷ head) more in
         let back = block-back block (joined blockArea after ++ more) (r % 512) inside (rw row (multiple-below r h)) in
-        block-value (writtenHead vs) (1 + length head) (length areas) _ bytes r (trained block) (blockWidth block) start _
+        block-value (writtenHead vs) (1 + length head) (length areas) (tableFrom 0 (before ++ (block ∷ after))) bytes r (trained block) (blockWidth block) start _
         (table-block before block after (r / 512) place) (rw here (back ∙ row ∙ multiple-at vs r h)) (multiple-within vs r h)
         ∙ ap value (multiple-back vs r h)
 
@@ -202,9 +203,9 @@ module _ (vs : List ℕ) where
 pub blockwise-opens : (vs : List ℕ) (room : ℕ) → AllBelow (2 ^ 64) vs → length vs < 2 ^ 32 → blockCount (length vs) ≤ room → opened (columnBy 2 vs) room ≡ value (opens vs)
 blockwise-opens vs room each few enough = rw (column-is vs) (column-opens vs each few room enough)
 
--- and the table's numbers for each block are the line trained on it, its width, and where the areas before it end (64 · width each, by Laid.block-starts)
+-- and the table has for each block the line trained on it, its width, and where the areas before it end (64 · width each, by Laid.block-starts)
 pub blockwise-table : (vs : List ℕ) (k : ℕ) → k < blockCount (length vs)
-    → BlockAt (opens vs .table) k (trained (blockOf k (multiples vs))) (blockWidth (blockOf k (multiples vs))) (length (joined blockArea (blocksIn k (multiples vs))))
+    → blockAt (opens vs .table) k ≡ blockFor (length (joined blockArea (blocksIn k (multiples vs)))) (blockOf k (multiples vs))
 blockwise-table vs k h =
     let ns = multiples vs in
     let same = multiples-length vs in

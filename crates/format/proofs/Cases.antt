@@ -12,7 +12,7 @@ use Rattle.format.specs.Bodies.{body, bitpacked, linear, linearLine, lin
 use Rattle.format.specs.Writing.{written, known, chosen, sizeOf, blockSize, blockSizes}
 use Rattle.format.specs.Saving.{saving, exponentOf, lastReached, powerBounds, reaches, inF32, nearest}
 use Rattle.format.specs.Opening.{opened, openBody, openBitpacked, openLinear, openBlockwise, readWidth, readFields, readBlocks}
-use Rattle.format.specs.Sheets.{lastFields, ending, strict, underSheet, openedUnder}
+use Rattle.format.specs.Sheets.{lastFields, ending, strict, underSheet}
 use Rattle.format.specs.Reading.{rowIn, placeIn, columnFits, rowFits, fits, packedOf, valueIn}
 use Rattle.format.specs.Windows.{narrowed}
 use Rattle.format.specs.Runs.{readRun, decoded}

@@ -9,7 +9,7 @@ use mathlib.Core.Path.{_≡_, refl, sym, ap, _∙_, subst}
 use mathlib.Core.Bool.{Bool, true, false}
 use mathlib.Core.Option.{Option, none, some}
 use mathlib.Core.List.{List, [], _∷_}
-use native.Mathlib.Nat.{add-zero, add-suc, suc-add, zero-add, zero-lt-suc, not-suc-le-zero, le-of-suc-le-suc, mul-comm}
+use native.Mathlib.Nat.{add-zero, add-suc, suc-add, zero-add, not-suc-le-zero, le-of-suc-le-suc, mul-comm}
 use native.Mathlib.Omega.{arith}
 use lib.Dec.{eqb}
 use lib.ListN.{length, getD}
@@ -38,7 +38,7 @@ use Rattle.format.proofs.Bitpacked.{bitpacked-round}
 use Rattle.format.proofs.Linear.{linear-round}
 use Rattle.format.proofs.Blockwise.{blockwise-round}
 use Rattle.format.specs.Comparing.{equalAnswers}
-use Rattle.format.specs.Checking.{Reason, Reason.counts, Reason.minimum, Reason.gcd, Reason.maximum, Verdict, Verdict.passed, Verdict.failed, firstUnequal, byRow, judgedHead, judged, checked}
+use Rattle.format.specs.Checking.{Reason, Reason.minimum, Reason.gcd, Reason.maximum, Verdict, Verdict.passed, Verdict.failed, firstUnequal, byRow, judgedHead, judged, checked}
 
 -- an answer that equals a value is it
 answer-equal : (o : Outcome ℕ) (v : ℕ) → equalAnswers o (value v) ≡ true → o ≡ value v

@@ -6,10 +6,11 @@
 -- Assumes nothing.
 use mathlib.Core.Path.{_≡_, sym, ap, _∙_}
 use mathlib.Core.List.{List, [], _∷_}
-use Prim.Native.Nat.{ℕ, zero, suc, _-_, _*_, _/_, _^_, _≤_, min}
+use Prim.Native.Nat.{ℕ, zero, suc, _-_, _^_, _≤_, min}
 use native.Mathlib.Omega.{arith}
 use lib.Dec.{leb}
 use lib.ListN.{length}
+use Rattle.format.specs.declared.Block.{Block}
 use Rattle.format.specs.declared.Spelling.{Spelling}
 use Rattle.format.specs.declared.Spelling.the-variants.{Shortest}
 use Rattle.format.specs.Outcome.{Outcome.value, _>>_, demand}
@@ -44,23 +45,23 @@ returns vs cs bytes table room each e enough =
     rw (w .is) (back .loaded, g .0, g .1, window-back back table enough)
 
 -- its numbers are spelled as short as can be
-pub written-shortest : (vs cs bytes table : List ℕ) (room : ℕ) → AllBelow (2 ^ 64) vs → written vs cs room ≡ value bytes → 4 * blockCount (length vs) ≤ length table
-    → (o : Loaded) → opened bytes (length table / 4) ≡ value o → o .spelling ≡ Shortest
+pub written-shortest : (vs cs bytes : List ℕ) (table : List Block) (room : ℕ) → AllBelow (2 ^ 64) vs → written vs cs room ≡ value bytes → blockCount (length vs) ≤ length table
+    → (o : Loaded) → opened bytes (length table) ≡ value o → o .spelling ≡ Shortest
 written-shortest vs cs bytes table room each e enough o opens =
     let w = written-as vs cs bytes room e in
     let back = any-codec (w .codec) (w .known) vs each (w .few) (w .applies) in
-    let there : opened bytes (length table / 4) ≡ value (back .loaded) = ap (λ (s : List ℕ). opened s (length table / 4)) (w .is) ∙ gives-back back table enough .0 in
+    let there : opened bytes (length table) ≡ value (back .loaded) = ap (λ (s : List ℕ). opened s (length table)) (w .is) ∙ gives-back back table enough .0 in
     ap (λ (l : Loaded). l .spelling) (value-same (sym opens ∙ there)) ∙ back .shortest
 
 -- and it passes both sheets
-pub written-passes : (vs cs bytes table : List ℕ) (room : ℕ) → AllBelow (2 ^ 64) vs → written vs cs room ≡ value bytes → 4 * blockCount (length vs) ≤ length table
-    → (o : Loaded) → opened bytes (length table / 4) ≡ value o
-    → (openedUnder 1 bytes (length table / 4) ≡ value o) × (openedUnder 2 bytes (length table / 4) ≡ value o)
+pub written-passes : (vs cs bytes : List ℕ) (table : List Block) (room : ℕ) → AllBelow (2 ^ 64) vs → written vs cs room ≡ value bytes → blockCount (length vs) ≤ length table
+    → (o : Loaded) → opened bytes (length table) ≡ value o
+    → (openedUnder 1 bytes (length table) ≡ value o) × (openedUnder 2 bytes (length table) ≡ value o)
 unfolding underSheet
 written-passes vs cs bytes table room each e enough o opens =
     let w = written-as vs cs bytes room e in
     let back = any-codec (w .codec) (w .known) vs each (w .few) (w .applies) in
-    let there : opened bytes (length table / 4) ≡ value (back .loaded) = ap (λ (s : List ℕ). opened s (length table / 4)) (w .is) ∙ gives-back back table enough .0 in
+    let there : opened bytes (length table) ≡ value (back .loaded) = ap (λ (s : List ℕ). opened s (length table)) (w .is) ∙ gives-back back table enough .0 in
     let same : o ≡ back .loaded = value-same (sym opens ∙ there) in
     let passes : strict bytes (o .column) (o .spelling) ≡ value tt =
     ap (λ (s : List ℕ). strict s (o .column) (o .spelling)) (w .is)
@@ -80,7 +81,7 @@ demand2 = (returns, accepts)
 
 -- a lookup in what came back tells the rows of the run, cut to the list, whose value lies in the range (Lookups.exactly and Lookups.ascends: exactly those, ascending), wherever the
 -- list for them has room; and how many they are where it has not
-pub found-rows : (vs bytes table : List ℕ) (o : Loaded) → GivesBack vs bytes table o → (low high first end room : ℕ)
+pub found-rows : (vs bytes : List ℕ) (table : List Block) (o : Loaded) → GivesBack vs bytes table o → (low high first end room : ℕ)
     → lookedUp (answered o table bytes) (o .column .window .rows) (within low high) first end room
     ≡ (demand (leb (length (foundIn vs (within low high) first (min end (length vs) - first))) room) 15 (length (foundIn vs (within low high) first (min end (length vs) - first)) ∷ [])
     >> value (foundIn vs (within low high) first (min end (length vs) - first)))

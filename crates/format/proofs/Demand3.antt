@@ -8,6 +8,7 @@ use mathlib.Core.Logic.{⊎-elim}
 use mathlib.Core.List.{List}
 use native.Mathlib.Omega.{arith}
 use lib.ListN.{length}
+use Rattle.format.specs.declared.Block.{Block}
 use Rattle.format.specs.declared.Window.{Window}
 use Rattle.format.specs.Outcome.{Outcome.value}
 use Rattle.format.specs.Opening.{Loaded, opened}
@@ -46,17 +47,17 @@ rows-apart s room o e q r k hq hr mine others =
 -- ---- what a row's answer depends on
 
 -- two byte strings whose openings are one; a row of a window
-module _ (s t table other : List ℕ) (o : Loaded) (so : opened s (length table / 4) ≡ value o) (to : opened t (length other / 4) ≡ value o)
+module _ (s t : List ℕ) (table other : List Block) (o : Loaded) (so : opened s (length table) ≡ value o) (to : opened t (length other) ≡ value o)
     (len : length s ≡ length t) (w : Window) (inside : LiesIn w o) (r : ℕ) (h : r < w .rows) where
   -- the column, seen through the window
   abbrev seen : Loaded
   seen = inWindow o w
 
   from-s : answered seen table s r ≡ askedAs r (valueOf seen s (w .first + r))
-  from-s = answer-is (laid-in (opened-laid s (length table / 4) o so) w inside) s (omega arith) r h table (omega arith)
+  from-s = answer-is (laid-in (opened-laid s (length table) o so) w inside) s (omega arith) r h table (omega arith)
 
   from-t : answered seen other t r ≡ askedAs r (valueOf seen t (w .first + r))
-  from-t = answer-is (laid-in (opened-laid t (length other / 4) o to) w inside) t (omega arith) r h other (omega arith)
+  from-t = answer-is (laid-in (opened-laid t (length other) o to) w inside) t (omega arith) r h other (omega arith)
 
   bits-agree : SameBits o s t (w .first + r) → answered seen table s r ≡ answered seen other t r
   bits-agree same =
@@ -66,7 +67,7 @@ module _ (s t table other : List ℕ) (o : Loaded) (so : opened s (length table 
   bits-differ : (SameBits o s t (w .first + r) → ⊥) → Differ r (answered seen table s r) (answered seen other t r)
   bits-differ differs =
       let q = w .first + r in
-      let laid = laid-in (opened-laid s (length table / 4) o so) w inside in
+      let laid = laid-in (opened-laid s (length table) o so) w inside in
       let lawful = laid .rows .lawful q (omega arith) in
       rw (from-s, from-t)
       (value-tells (o .column .codec) (seen .column) (blockAt (o .table) (q / 512)) r q (packedOf (seen .column) (blockAt (o .table) (q / 512)) s q) (packedOf (seen .column) (blockAt (o .table) (q / 512)) t q)
@@ -74,10 +75,10 @@ module _ (s t table other : List ℕ) (o : Loaded) (so : opened s (length table 
       (λ e. differs (bits-same seen s t len q e)))
 
 -- two openings that are one tell rows apart by their bits
-pub rows-told : (s t table other : List ℕ) (o p : Loaded) → opened s (length table / 4) ≡ value o → opened t (length other / 4) ≡ value p
+pub rows-told : (s t : List ℕ) (table other : List Block) (o p : Loaded) → opened s (length table) ≡ value o → opened t (length other) ≡ value p
     → length s ≡ length t → o ≡ p → RowsTell s t table other o p
 rows-told s t table other o p so tp long same =
-    let to : opened t (length other / 4) ≡ value o = tp ∙ ap (λ (q : Loaded). value q) (sym same) in
+    let to : opened t (length other) ≡ value o = tp ∙ ap (λ (q : Loaded). value q) (sym same) in
     subst (λ (q : Loaded). RowsTell s t table other o q) same (record {
       same = refl;
       agree = λ (w : Window) (inside : LiesIn w o) (r : ℕ) (h : r < w .rows). bits-agree s t table other o so to long w inside r h;
@@ -87,7 +88,7 @@ rows-told s t table other o p so tp long same =
 pub rows-tell : Tell
 rows-tell s t table other o p so tp a =
     rows-told s t table other o p so tp (a .long)
-    (opened-same s t (length table / 4) (length other / 4) o p so tp (alike-fields s t (length table / 4) o so a))
+    (opened-same s t (length table) (length other) o p so tp (alike-fields s t (length table) o so a))
 
 pub demand3 : Demand3
 demand3 = (rows-inside, rows-apart, rows-tell)

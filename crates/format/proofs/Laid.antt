@@ -13,6 +13,7 @@ use mathlib.Core.List.{List, []}
 use native.Mathlib.Omega.{arith}
 use lib.ListN.{length, take}
 use borrow.Author.Tests.{lt-ltb}
+use Rattle.format.specs.declared.Block.{Block}
 use Rattle.format.specs.declared.Codec.{Codec}
 use Rattle.format.specs.declared.Codec.the-variants.{Bitpacked, Linear, Blockwise}
 use Rattle.format.specs.declared.Column.{Column}
@@ -44,8 +45,8 @@ abbrev pub endBit : Place → ℕ
 endBit p = 8 * p .start + (p .row + 1) * p .bits
 
 -- the rows of a codec lie in an area of so many bytes: each has its block and a legal width, ends inside, and behind it come the later ones
-pub record RowsLaid (codec : Codec) (count rows size : ℕ) (table : List ℕ) : Type 0 where
-  pub present : (r : ℕ) → r < rows → hasBlock codec (length table / 4) r ≡ true
+pub record RowsLaid (codec : Codec) (count rows size : ℕ) (table : List Block) : Type 0 where
+  pub present : (r : ℕ) → r < rows → hasBlock codec (length table) r ≡ true
   pub lawful : (r : ℕ) → r < rows → legal (placeIn codec count (blockAt table (r / 512)) r .bits) ≡ true
   pub inside : (r : ℕ) → r < rows → endBit (placeIn codec count (blockAt table (r / 512)) r) ≤ 8 * size
   pub order : (q r : ℕ) → q < r → r < rows → endBit (placeIn codec count (blockAt table (q / 512)) q) ≤ firstBit (placeIn codec count (blockAt table (r / 512)) r)
@@ -64,7 +65,7 @@ pub record Laid (long room : ℕ) (o : Loaded) : Type 0 where
   pub head : HeadLaid (o .column)
   pub start : 1 < o .column .start
   pub area : o .column .start + o .column .size ≤ long
-  pub table : length (o .table) ≤ 4 * room
+  pub table : length (o .table) ≤ room
   pub rows : RowsLaid (o .column .codec) (o .column .count) (o .column .rows) (o .column .size) (o .table)
   pub window : LiesIn (o .column .window) o
 
@@ -99,13 +100,13 @@ row-within rows r h = omega arith
 
 module _ {s : List ℕ} {at rows : ℕ} {t : Table} (b : BlocksRead (blockCount rows) s at 0 rows t) where
   -- a row's bits end inside its block
-  row-in-block : (r : ℕ) → r < rows → 8 * blockAt (t .numbers) (r / 512) .start + (r % 512 + 1) * blockAt (t .numbers) (r / 512) .bits ≤ 8 * endAt rows (t .numbers) (r / 512)
-  row-in-block r h = omega (arith, row-inside (rowsIn rows (r / 512)) (blockAt (t .numbers) (r / 512) .bits) (r % 512) (row-within rows r h))
+  row-in-block : (r : ℕ) → r < rows → 8 * blockAt (t .blocks) (r / 512) .start + (r % 512 + 1) * blockAt (t .blocks) (r / 512) .bits ≤ 8 * endAt rows (t .blocks) (r / 512)
+  row-in-block r h = omega (arith, row-inside (rowsIn rows (r / 512)) (blockAt (t .blocks) (r / 512) .bits) (r % 512) (row-within rows r h))
 
-  pub blockwise-laid : (count : ℕ) → RowsLaid Blockwise count rows (t .area) (t .numbers)
+  pub blockwise-laid : (count : ℕ) → RowsLaid Blockwise count rows (t .area) (t .blocks)
   unfolding placeIn
   blockwise-laid count = record {
-    present = λ (r : ℕ) (h : r < rows). lt-ltb (r / 512) (length (t .numbers) / 4) (omega (arith, b .long, row-block rows r h));
+    present = λ (r : ℕ) (h : r < rows). lt-ltb (r / 512) (length (t .blocks)) (omega (arith, b .long, row-block rows r h));
     lawful = λ (r : ℕ) (h : r < rows). blocks-lawful b (r / 512) (row-block rows r h);
     inside = λ (r : ℕ) (h : r < rows). omega (arith, row-in-block r h, blocks-inside b (r / 512) (row-block rows r h));
     order = λ (q r : ℕ) (h : q < r) (k : r < rows).
@@ -113,7 +114,7 @@ module _ {s : List ℕ} {at rows : ℕ} {t : Table} (b : BlocksRead (blockCount 
         (λ (apart : q / 512 < r / 512). omega (arith, row-in-block q (omega arith), blocks-order b (q / 512) (r / 512) apart (row-block rows r k)))
         (λ (late : r / 512 ≤ q / 512).
         let same : q / 512 ≡ r / 512 = omega arith in
-        rw same (omega (arith, row-before (blockAt (t .numbers) (r / 512) .bits) (q % 512) (r % 512) (omega arith))))
+        rw same (omega (arith, row-before (blockAt (t .blocks) (r / 512) .bits) (q % 512) (r % 512) (omega arith))))
         (below-or (q / 512) (r / 512));
   }
 

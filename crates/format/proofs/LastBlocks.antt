@@ -5,21 +5,21 @@
 use mathlib.Core.Path.{_≡_, refl, sym, ap, ap₂, _∙_}
 use mathlib.Core.Option.{none}
 use mathlib.Core.List.{List, [], _∷_, _++_, append-assoc}
-use Prim.Native.Nat.{ℕ, zero, suc, _+_, _-_, _*_, _/_, _%_, _^_, _≤_, _<_}
+use Prim.Native.Nat.{ℕ, zero, suc, _+_, _-_, _*_, _%_}
 use native.Mathlib.Nat.{add-zero, mul-add, mul-assoc, mul-comm}
 use native.Mathlib.Omega.{arith}
-use lib.ListN.{length, take, drop, getD, length-append, length-take, length-drop}
+use lib.ListN.{length, take, drop, length-append}
 use lib.Seq.{drop-drop}
 use Rattle.format.specs.Outcome.{Outcome.value}
 use Rattle.format.specs.Word.{bytesFor}
 use Rattle.format.specs.Packing.{packed}
 use Rattle.format.specs.Line.{trained, residuals}
-use Rattle.format.specs.Bodies.{blocksIn, blockCount, blockResiduals, blockWidth, blockArea, blockEntry, joined, footer}
+use Rattle.format.specs.Bodies.{blocksIn, blockResiduals, blockWidth, blockArea, blockEntry, joined, footer}
 use Rattle.format.specs.Sheets.{overfull, lastFields}
 use Rattle.format.proofs.Lists.{drop-past}
 use Rattle.format.proofs.Packing.{length-packed}
 use Rattle.format.proofs.Lines.{residuals-length}
-use Rattle.format.proofs.WrittenBlocks.{blockOf, read-entry, length-area, area-split, area-block}
+use Rattle.format.proofs.WrittenBlocks.{blockOf, read-entry, area-split, area-block}
 use Rattle.format.proofs.Sheets.{overfull-packed}
 
 -- ---- the footer's last fields

@@ -7,7 +7,7 @@
 --     owners-filled                                   a lent table that was filled names the same rows
 -- Assumes nothing.
 use Prim.Native.Nat.{ℕ, zero, suc, _+_, _-_, _*_, _/_, _%_, _≤_, _<_, min, max}
-use mathlib.Core.Path.{_≡_, refl, sym, ap, _∙_, subst}
+use mathlib.Core.Path.{_≡_, refl, ap, _∙_, subst}
 use mathlib.Core.Bool.{Bool, true, false, _&&_}
 use mathlib.Core.Logic.{⊎-elim}
 use mathlib.Core.List.{List, []}
@@ -37,7 +37,7 @@ use Rattle.format.specs.Blame.{Named, Owned, AllOwned}
 use Rattle.format.proofs.Lists.{below-or}
 use Rattle.format.proofs.Widths.{width-legal}
 use Rattle.format.proofs.LineFields.{fields-read}
-use Rattle.format.proofs.Tables.{rowsIn, endAt, BlocksRead, blocks-read, blocks-lawful, blocks-order}
+use Rattle.format.proofs.Tables.{endAt, BlocksRead, blocks-read, blocks-lawful, blocks-order}
 use Rattle.format.proofs.Openings.{OpensBitpacked, OpensLinear, OpensBlockwise, bitpackedOf, linearOf, blockwiseOf, footerEnd, footerStart, by-opening}
 use Rattle.format.proofs.Rows.{filled-block}
 
@@ -159,7 +159,7 @@ run-none u j high =
 -- ---- the rows of a codec's area
 
 -- the rows named for a byte are those that have a bit in it, wherever the area begins; and each byte of the area has one
-pub record AreaOwned (codec : Codec) (count rows size : ℕ) (table : List ℕ) : Type 0 where
+pub record AreaOwned (codec : Codec) (count rows size : ℕ) (table : List Block) : Type 0 where
   pub named : (c i r : ℕ) → c ≤ i → Named (areaOwners codec count rows table (i - c)) r
       → (r < rows) × (let p = placeIn codec count (blockAt table (r / 512)) r in Has (c + p .start) (p .bits) (p .row) i)
   pub all : (c i r : ℕ) → r < rows → (let p = placeIn codec count (blockAt table (r / 512)) r in Has (c + p .start) (p .bits) (p .row) i)
@@ -207,7 +207,7 @@ linear-owned count rows f lawful = record {
 -- ---- blocks
 
 -- the rows that some blocks name are those that one of them names
-block-names : (t : List ℕ) (rows j r n k : ℕ) → Named (blockOwners t rows k n j) r → (m : ℕ) × (k ≤ m) × (m < k + n) × Named (runOwners (blockRun t rows m) j) r
+block-names : (t : List Block) (rows j r n k : ℕ) → Named (blockOwners t rows k n j) r → (m : ℕ) × (k ≤ m) × (m < k + n) × Named (runOwners (blockRun t rows m) j) r
 unfolding blockOwners
 block-names t rows j r zero k named = absurd named
 block-names t rows j r (suc n) k named = go (runOwners (blockRun t rows k) j) refl (λ later. block-names t rows j r n (suc k) later) named
@@ -226,7 +226,7 @@ named-first (Rows f l) b r named = named
 named-first NoRow b r named = absurd named
 
 -- the rows of the first block that names any are named by all
-names-block : (t : List ℕ) (rows j r m n k : ℕ) → k ≤ m → m < k + n → ((b : ℕ) → b < m → runOwners (blockRun t rows b) j ≡ NoRow)
+names-block : (t : List Block) (rows j r m n k : ℕ) → k ≤ m → m < k + n → ((b : ℕ) → b < m → runOwners (blockRun t rows b) j ≡ NoRow)
     → Named (runOwners (blockRun t rows m) j) r → Named (blockOwners t rows k n j) r
 unfolding blockOwners
 names-block t rows j r m zero k low high none named = absurd (omega arith)
@@ -240,69 +240,69 @@ names-block t rows j r m (suc n) k low high none named =
 
 module _ {s : List ℕ} {at rows : ℕ} {t : Table} (b : BlocksRead (blockCount rows) s at 0 rows t) where
   -- blocks before that of a byte name none
-  none-before : (m j : ℕ) → m < blockCount rows → blockAt (t .numbers) m .start ≤ j → (e : ℕ) → e < m → runOwners (blockRun (t .numbers) rows e) j ≡ NoRow
-  none-before m j h low e before = run-none (blockRun (t .numbers) rows e) j (omega (arith, blocks-order b e m before h))
+  none-before : (m j : ℕ) → m < blockCount rows → blockAt (t .blocks) m .start ≤ j → (e : ℕ) → e < m → runOwners (blockRun (t .blocks) rows e) j ≡ NoRow
+  none-before m j h low e before = run-none (blockRun (t .blocks) rows e) j (omega (arith, blocks-order b e m before h))
 
   -- a byte of the area lies in a block
-  block-of : (m j : ℕ) → m < blockCount rows → j < endAt rows (t .numbers) m
-      → (e : ℕ) × (e < blockCount rows) × (blockAt (t .numbers) e .start ≤ j) × (j < endAt rows (t .numbers) e)
+  block-of : (m j : ℕ) → m < blockCount rows → j < endAt rows (t .blocks) m
+      → (e : ℕ) × (e < blockCount rows) × (blockAt (t .blocks) e .start ≤ j) × (j < endAt rows (t .blocks) e)
   block-of zero j h high = (zero, h, omega (arith, b .first h), high)
   block-of (suc m) j h high =
       ⊎-elim
-      (λ (before : j < blockAt (t .numbers) (suc m) .start). block-of m j (omega arith) (omega (arith, b .next m h)))
-      (λ (low : blockAt (t .numbers) (suc m) .start ≤ j). (suc m, h, low, high))
-      (below-or j (blockAt (t .numbers) (suc m) .start))
+      (λ (before : j < blockAt (t .blocks) (suc m) .start). block-of m j (omega arith) (omega (arith, b .next m h)))
+      (λ (low : blockAt (t .blocks) (suc m) .start ≤ j). (suc m, h, low, high))
+      (below-or j (blockAt (t .blocks) (suc m) .start))
 
-  pub blockwise-owned : (count : ℕ) → AreaOwned Blockwise count rows (t .area) (t .numbers)
+  pub blockwise-owned : (count : ℕ) → AreaOwned Blockwise count rows (t .area) (t .blocks)
   unfolding placeIn areaOwners
   blockwise-owned count = record { named = named; all = all; some = some }
     where
-      named : (c i r : ℕ) → c ≤ i → Named (blockOwners (t .numbers) rows 0 (blockCount rows) (i - c)) r
-          → (r < rows) × Has (c + blockAt (t .numbers) (r / 512) .start) (blockAt (t .numbers) (r / 512) .bits) (r % 512) i
+      named : (c i r : ℕ) → c ≤ i → Named (blockOwners (t .blocks) rows 0 (blockCount rows) (i - c)) r
+          → (r < rows) × Has (c + blockAt (t .blocks) (r / 512) .start) (blockAt (t .blocks) (r / 512) .bits) (r % 512) i
       named c i r late name =
-          let n = block-names (t .numbers) rows (i - c) r (blockCount rows) 0 name in
+          let n = block-names (t .blocks) rows (i - c) r (blockCount rows) 0 name in
           let m = n .0 in
-          let u = run-owns (blockRun (t .numbers) rows m) c i r late (n .3) in
+          let u = run-owns (blockRun (t .blocks) rows m) c i r late (n .3) in
           let q = u .0 in
           let is : r ≡ 512 * m + q = u .1 in
           let few : q < min (rows - 512 * m) 512 = u .2 in
           let block : m ≡ r / 512 = omega arith in
           let row : q ≡ r % 512 = omega arith in (
             omega arith,
-            subst (λ (e : ℕ). Has (c + blockAt (t .numbers) e .start) (blockAt (t .numbers) e .bits) (r % 512) i) block
-                (subst (λ (e : ℕ). Has (c + blockAt (t .numbers) m .start) (blockAt (t .numbers) m .bits) e i) row (u .3)),
+            subst (λ (e : ℕ). Has (c + blockAt (t .blocks) e .start) (blockAt (t .blocks) e .bits) (r % 512) i) block
+                (subst (λ (e : ℕ). Has (c + blockAt (t .blocks) m .start) (blockAt (t .blocks) m .bits) e i) row (u .3)),
           )
 
-      all : (c i r : ℕ) → r < rows → Has (c + blockAt (t .numbers) (r / 512) .start) (blockAt (t .numbers) (r / 512) .bits) (r % 512) i
-          → (c ≤ i) × Named (blockOwners (t .numbers) rows 0 (blockCount rows) (i - c)) r
+      all : (c i r : ℕ) → r < rows → Has (c + blockAt (t .blocks) (r / 512) .start) (blockAt (t .blocks) (r / 512) .bits) (r % 512) i
+          → (c ≤ i) × Named (blockOwners (t .blocks) rows 0 (blockCount rows) (i - c)) r
       all c i r h has =
           let m = r / 512 in
           let there : m < blockCount rows = omega arith in
-          let u = owns-run (blockRun (t .numbers) rows m) c i (r % 512) (blocks-lawful b m there) (omega arith) has in
+          let u = owns-run (blockRun (t .blocks) rows m) c i (r % 512) (blocks-lawful b m there) (omega arith) has in
           let row : 512 * m + r % 512 ≡ r = omega arith in (
             omega (arith, u .0),
-            names-block (t .numbers) rows (i - c) r m (blockCount rows) 0 (omega arith) (omega arith) (none-before m (i - c) there (omega (arith, u .0)))
-                (subst (λ (e : ℕ). Named (runOwners (blockRun (t .numbers) rows m) (i - c)) e) row (u .1)),
+            names-block (t .blocks) rows (i - c) r m (blockCount rows) 0 (omega arith) (omega arith) (none-before m (i - c) there (omega (arith, u .0)))
+                (subst (λ (e : ℕ). Named (runOwners (blockRun (t .blocks) rows m) (i - c)) e) row (u .1)),
           )
 
-      some : (j : ℕ) → j < t .area → (r : ℕ) × Named (blockOwners (t .numbers) rows 0 (blockCount rows) j) r
+      some : (j : ℕ) → j < t .area → (r : ℕ) × Named (blockOwners (t .blocks) rows 0 (blockCount rows) j) r
       some j h =
           ⊎-elim
           (λ (any : 0 < blockCount rows).
           let last = blockCount rows - 1 in
           let m = block-of last j (omega arith) (omega (arith, b .last last (omega arith))) in
-          let u = run-some (blockRun (t .numbers) rows (m .0)) j (blocks-lawful b (m .0) (m .1)) (m .2) (m .3) in
-          (512 * m .0 + u .0, names-block (t .numbers) rows j (512 * m .0 + u .0) (m .0) (blockCount rows) 0 (omega arith) (omega (arith, m .1)) (none-before (m .0) j (m .1) (m .2)) (u .2)))
+          let u = run-some (blockRun (t .blocks) rows (m .0)) j (blocks-lawful b (m .0) (m .1)) (m .2) (m .3) in
+          (512 * m .0 + u .0, names-block (t .blocks) rows j (512 * m .0 + u .0) (m .0) (blockCount rows) 0 (omega arith) (omega (arith, m .1)) (none-before (m .0) j (m .1) (m .2)) (u .2)))
           (λ (none : blockCount rows ≤ 0). absurd (omega (arith, b .none (omega arith))))
           (below-or 0 (blockCount rows))
 
 -- ---- what opens
 
-owners-before : (col : Column) (t : List ℕ) (i : ℕ) → i < col .start → ownersAt col t i ≡ NoRow
+owners-before : (col : Column) (t : List Block) (i : ℕ) → i < col .start → ownersAt col t i ≡ NoRow
 unfolding ownersAt
 owners-before col t i h = rw (lt-leb (col .start) i h)
 
-owners-within : (col : Column) (t : List ℕ) (i : ℕ) → col .start ≤ i → ownersAt col t i ≡ areaOwners (col .codec) (col .count) (col .rows) t (i - col .start)
+owners-within : (col : Column) (t : List Block) (i : ℕ) → col .start ≤ i → ownersAt col t i ≡ areaOwners (col .codec) (col .count) (col .rows) t (i - col .start)
 unfolding ownersAt
 owners-within col t i h = rw (le-leb (col .start) i h)
 
@@ -346,15 +346,15 @@ all-owned s room = by-opening (λ (o : Loaded). (i : ℕ) → Owned o i) s room 
 -- ---- a lent table that was filled
 
 -- blocks that agree name the same rows
-blocks-alike : (t u : List ℕ) (rows j n k : ℕ) → ((b : ℕ) → b < k + n → blockAt t b ≡ blockAt u b) → blockOwners t rows k n j ≡ blockOwners u rows k n j
+blocks-alike : (t u : List Block) (rows j n k : ℕ) → ((b : ℕ) → b < k + n → blockAt t b ≡ blockAt u b) → blockOwners t rows k n j ≡ blockOwners u rows k n j
 unfolding blockOwners
 blocks-alike t u rows j zero k same = refl
 blocks-alike t u rows j (suc n) k same =
     ap (λ (b : Block). orElse (runOwners (record { start = b .start; bits = b .bits; first = 512 * k; rows = min (rows - 512 * k) 512 }) j) (blockOwners t rows (suc k) n j)) (same k (omega arith))
     ∙ ap (λ (later : Owners). orElse (runOwners (blockRun u rows k) j) later) (blocks-alike t u rows j n (suc k) (λ (b : ℕ) (h : b < suc k + n). same b (omega arith)))
 
--- where a lent table that was filled holds a column's blocks, it names the rows that the opening's own numbers name
-pub owners-filled : (s : List ℕ) (room : ℕ) (o : Loaded) → opened s room ≡ value o → (table : List ℕ) → 4 * room ≤ length table → (i : ℕ)
+-- where a lent table that was filled holds a column's blocks, it names the rows that the opening's own blocks name
+pub owners-filled : (s : List ℕ) (room : ℕ) (o : Loaded) → opened s room ≡ value o → (table : List Block) → room ≤ length table → (i : ℕ)
     → ownersAt (o .column) (filledBy o table) i ≡ ownersAt (o .column) (o .table) i
 unfolding ownersAt areaOwners
 owners-filled s room o e table enough i =
@@ -364,6 +364,6 @@ owners-filled s room o e table enough i =
     (λ (h : Head) (t : Table) (f : OpensBlockwise s h room t).
     let b = blocks-read (blockCount (h .rows)) (take (footerEnd s) s) (footerStart s) 0 (h .rows) t (f .blocks) in
     ap (λ (named : Owners). pick (leb (h .next) i) named NoRow)
-    (blocks-alike (sets table 0 (t .numbers)) (t .numbers) (h .rows) (i - h .next) (blockCount (h .rows)) 0
-    (λ (k : ℕ) (below : k < 0 + blockCount (h .rows)). filled-block table (t .numbers) k (omega (arith, b .long, f .enough)) (omega (arith, b .long)))))
+    (blocks-alike (sets table 0 (t .blocks)) (t .blocks) (h .rows) (i - h .next) (blockCount (h .rows)) 0
+    (λ (k : ℕ) (below : k < 0 + blockCount (h .rows)). filled-block table (t .blocks) k (omega (arith, b .long, f .enough)) (omega (arith, b .long)))))
     o e

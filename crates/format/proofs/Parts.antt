@@ -9,14 +9,13 @@ use Prim.Native.Nat.{ℕ, zero, suc, _+_, _-_, _*_, _^_, _≤_, _<_, min}
 use mathlib.Core.Path.{_≡_, refl, sym, ap, _∙_, subst}
 use mathlib.Core.Bool.{Bool, true, false}
 use mathlib.Core.Logic.{⊎-elim}
-use mathlib.Core.Option.{Option, some}
+use mathlib.Core.Option.{some}
 use mathlib.Core.List.{List, [], _∷_, _++_}
 use native.Mathlib.Omega.{arith}
 use lib.Dec.{ltb, leb}
 use lib.ListN.{length, take, drop, length-take, take-append-drop}
 use lib.Seq.{drop-append-le, take-length}
 use borrow.Author.Tests.{lt-ltb, le-ltb, le-leb, lt-leb}
-use Rattle.format.specs.declared.Codec.the-variants.{Bitpacked, Linear, Blockwise}
 use Rattle.format.specs.declared.Column.{Column}
 use Rattle.format.specs.declared.Field.{Field}
 use Rattle.format.specs.declared.Fields.{Fields}
@@ -30,15 +29,13 @@ use Rattle.format.specs.Word.{bytesFor}
 use Rattle.format.specs.Stats.{readHead}
 use Rattle.format.specs.Bodies.{blockCount}
 use Rattle.format.specs.Opening.{Loaded, Table, opened, readFields, readWidth, readBlocks}
-use Rattle.format.specs.Parts.{headNames, namesBefore, blockNames, namesFooter, names, shapeOf, spelledIn, footerAt, behindEnd, extent, spelled, partHere, partEnd, partsFrom, partsOf, partIn, partAt}
-use Rattle.format.specs.Blame.{Consecutive, holds, holding, Parted, AllParted}
+use Rattle.format.specs.Parts.{headNames, namesBefore, blockNames, namesFooter, names, shapeOf, spelledIn, behindEnd, extent, spelled, partHere, partEnd, partsFrom, partsOf, partIn, partAt}
+use Rattle.format.specs.Blame.{Consecutive, holding, AllParted}
 use Rattle.format.proofs.Lists.{below-or}
 use Rattle.format.proofs.Outcomes.{not-value, value-same, by-step, by-demand}
 use Rattle.format.proofs.Varints.{varint-read, not-found}
 use Rattle.format.proofs.LineFields.{width-read, fields-read}
-use Rattle.format.proofs.Heads.{head-read}
-use Rattle.format.proofs.Openings.{OpensBitpacked, OpensLinear, OpensBlockwise, bitpackedOf, linearOf, blockwiseOf, footerEnd, footerStart, by-opening}
-use Rattle.format.proofs.Laid.{opened-laid}
+use Rattle.format.proofs.Openings.{OpensBitpacked, OpensLinear, OpensBlockwise, bitpackedOf, linearOf, blockwiseOf, footerStart, by-opening}
 
 -- ---- where parts of some names end
 

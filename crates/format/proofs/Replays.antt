@@ -15,17 +15,16 @@ use mathlib.Core.Logic.{_↔_, _⊎_, inl, inr}
 use mathlib.Core.Option.{Option, none, some}
 use mathlib.Core.List.{List, [], _∷_}
 use native.Mathlib.Nat.{eq-or-lt-of-le}
-use native.Mathlib.Numerals.{add-one}
 use native.Mathlib.Omega.{arith}
 use lib.Dec.{leb, eqb}
 use lib.ListN.{length, getD, take, drop}
 use lib.Seq.{drop-cons}
-use borrow.Author.Tests.{le-leb, lt-leb, leb-true, eqb-true, eq-eqb}
+use borrow.Author.Tests.{le-leb, eqb-true, eq-eqb}
 use Rattle.format.specs.declared.Recording.{Recording}
 use Rattle.format.specs.Outcome.{Outcome, Outcome.value, Outcome.refusal, _>>_, demand, pick}
 use Rattle.format.specs.Packing.{bytesNum}
 use Rattle.format.specs.Lookup.{allRead, rowsPassing, within, lookedUp}
-use Rattle.format.specs.Replaying.{numberAt, headerOf, recordAt, listedAt, listedFrom, isRecording, sameRows, areRows, foundAre, agrees, firstDiffering, Report, reported, replayed}
+use Rattle.format.specs.Replaying.{numberAt, headerOf, recordAt, listedFrom, isRecording, sameRows, areRows, foundAre, agrees, firstDiffering, Report, reported, replayed}
 use Rattle.format.proofs.Outcomes.{not-value, value-same}
 
 -- ---- numbers

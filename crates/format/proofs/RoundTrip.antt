@@ -5,9 +5,10 @@
 -- Assumes nothing.
 use mathlib.Core.Path.{_≡_, refl, sym, ap, _∙_, subst}
 use mathlib.Core.List.{List, _∷_, _++_}
-use Prim.Native.Nat.{ℕ, _+_, _*_, _/_, _^_, _≤_, _<_}
+use Prim.Native.Nat.{ℕ, _+_, _/_, _^_, _≤_, _<_}
 use native.Mathlib.Omega.{arith}
 use lib.ListN.{length}
+use Rattle.format.specs.declared.Block.{Block}
 use Rattle.format.specs.declared.Spelling.the-variants.{Shortest}
 use Rattle.format.specs.declared.Window.{Window}
 use Rattle.format.specs.Outcome.{Outcome.value}
@@ -39,22 +40,22 @@ pub record Restores (codec : ℕ) (vs : List ℕ) : Type 0 where
 abbrev pub RoundTrips : ℕ → Type 0
 RoundTrips codec = (vs : List ℕ) → AllBelow (2 ^ 64) vs → length vs < 2 ^ 32 → Applies codec vs → Restores codec vs
 
-module _ {codec : ℕ} {vs : List ℕ} (back : Restores codec vs) (table : List ℕ) (enough : 4 * blockCount (length vs) ≤ length table) where
+module _ {codec : ℕ} {vs : List ℕ} (back : Restores codec vs) (table : List Block) (enough : blockCount (length vs) ≤ length table) where
   abbrev bytes : List ℕ
   bytes = columnBy codec vs
 
   abbrev loaded : Loaded
   loaded = back .loaded
 
-  opens : opened bytes (length table / 4) ≡ value loaded
-  opens = back .opens (length table / 4) (omega arith)
+  opens : opened bytes (length table) ≡ value loaded
+  opens = back .opens (length table) (omega arith)
 
   -- a row of a window has the list's value at the column's row
   seen-rows : (w : Window) → LiesIn w loaded → (r : ℕ) → r < w .rows → answered (inWindow loaded w) table bytes r ≡ readsAs vs (w .first + r)
   unfolding packedOf
   seen-rows w inside r h =
       let q = w .first + r in
-      answer-is (laid-in (opened-laid bytes (length table / 4) loaded opens) w inside) bytes (omega arith) r h table (omega arith)
+      answer-is (laid-in (opened-laid bytes (length table) loaded opens) w inside) bytes (omega arith) r h table (omega arith)
       ∙ ap (askedAs r)
       (value-window (loaded .column .codec) (loaded .column) w (blockAt (loaded .table) (q / 512)) q (packedOf (loaded .column) (blockAt (loaded .table) (q / 512)) bytes q)
       ∙ back .values q (omega (arith, back .count)))
@@ -76,11 +77,11 @@ module _ {codec : ℕ} {vs : List ℕ} (back : Restores codec vs) (table : List 
       }
 
   -- the window of the whole column gives back the list, every row and every lookup, through any lent table with room for its blocks
-  pub gives-back : (opened bytes (length table / 4) ≡ value loaded) × GivesBack vs bytes table loaded
+  pub gives-back : (opened bytes (length table) ≡ value loaded) × GivesBack vs bytes table loaded
   gives-back =
       let all : shown (whole loaded) vs ≡ vs = shown-all (whole loaded) vs refl (back .count) in (
         opens,
-        subst (λ (l : Loaded). GivesBack vs bytes table l) (opened-whole bytes (length table / 4) loaded opens)
+        subst (λ (l : Loaded). GivesBack vs bytes table l) (opened-whole bytes (length table) loaded opens)
             (subst (λ (l : List ℕ). GivesBack l bytes table (inWindow loaded (whole loaded))) all (window-back (whole loaded) (omega arith))),
       )
 

@@ -1,5 +1,5 @@
 -- Reading a row of a window of an opened column: never 12 nor 13; what the answer depends on; that another packed number answers otherwise.
---     filled-block, filled-row                     a block of a lent table that was filled; reading through a lent table that was filled is reading through the opening's own numbers
+--     filled-block, filled-row                     a block of a lent table that was filled; reading through a lent table that was filled is reading through the opening's own blocks
 --     row-there, row-fits, row-answers, answer-is  column, table and bytes fit; the answer is the value of the packed number, or 14
 --     packed-same, bits-same, packed-small         a row's packed number and its bits
 --     value-tells                                  another packed number answers otherwise, unless both answers are 14
@@ -27,7 +27,7 @@ use Rattle.format.specs.Word.{modAdd}
 use Rattle.format.specs.Packing.{legal, bitAt}
 use Rattle.format.specs.Line.{lineAt}
 use Rattle.format.specs.Opening.{Loaded, opened}
-use Rattle.format.specs.Reading.{columnRow, placeIn, placeOf, blockAt, hasBlock, columnFits, rowFits, fits, packedOf, valueIn, valueAt, askedAs, rowIn, rowAt}
+use Rattle.format.specs.Reading.{columnRow, placeIn, placeOf, noBlock, blockAt, hasBlock, columnFits, rowFits, fits, packedOf, valueIn, valueAt, askedAs, rowIn, rowAt}
 use Rattle.format.specs.Windows.{windowed, inWindow}
 use Rattle.format.specs.Demands.{filledBy, answered, LiesIn, Owns, SameBits, Differ}
 use Rattle.format.proofs.Outcomes.{told-apart}
@@ -37,20 +37,10 @@ use Rattle.format.proofs.Laid.{Laid, opened-laid, laid-in}
 
 -- ---- a table in a lent list
 
--- the first entries of a lent list are what was stored
-filled-at : (table xs : List ℕ) (i : ℕ) → length xs ≤ length table → i < length xs → getD (sets table 0 xs) i 0 ≡ getD xs i 0
-filled-at table xs i fit h =
-    ap (λ (l : List ℕ). getD l i 0) (sets-eq xs table 0 (omega arith)) ∙ List·getD-append xs (drop (0 + length xs) table) 0 i h
-
--- so a block that is there is found again
-pub filled-block : (table xs : List ℕ) (b : ℕ) → length xs ≤ length table → b < length xs / 4 → blockAt (sets table 0 xs) b ≡ blockAt xs b
+-- the first blocks of a lent table are what was stored
+pub filled-block : (table xs : List Block) (b : ℕ) → length xs ≤ length table → b < length xs → blockAt (sets table 0 xs) b ≡ blockAt xs b
 filled-block table xs b fit h =
-    rw (
-      filled-at table xs (4 * b) fit (omega arith),
-      filled-at table xs (4 * b + 1) fit (omega arith),
-      filled-at table xs (4 * b + 2) fit (omega arith),
-      filled-at table xs (4 * b + 3) fit (omega arith),
-    )
+    ap (λ (l : List Block). getD l b noBlock) (sets-eq xs table 0 (omega arith)) ∙ List·getD-append xs (drop (0 + length xs) table) noBlock b h
 
 -- tables of however many blocks that have a row's block read it alike
 counted-alike : (col : Column) (b : Block) (s : List ℕ) (r blocks more : ℕ) → hasBlock (col .codec) blocks (columnRow col r) ≡ true → hasBlock (col .codec) more (columnRow col r) ≡ true
@@ -59,20 +49,20 @@ unfolding rowIn fits rowFits
 counted-alike col b s r blocks more here there = rw (here, there)
 
 -- one codec's reading through a lent table that was filled
-filled-reading : (col : Column) (codec : Codec) → col .codec ≡ codec → (table xs s : List ℕ) (r : ℕ) → length xs ≤ length table → hasBlock codec (length xs / 4) (columnRow col r) ≡ true
+filled-reading : (col : Column) (codec : Codec) → col .codec ≡ codec → (table xs : List Block) (s : List ℕ) (r : ℕ) → length xs ≤ length table → hasBlock codec (length xs) (columnRow col r) ≡ true
     → rowAt col (sets table 0 xs) s r ≡ rowAt col xs s r
 unfolding rowIn fits rowFits packedOf placeIn valueIn
 filled-reading col Bitpacked e table xs s r fit there = rw e
 filled-reading col (Linear l w) e table xs s r fit there = rw e
 filled-reading col Blockwise e table xs s r fit there =
     let k = columnRow col r / 512 in
-    let inside : k < length xs / 4 = ltb-true k (length xs / 4) there in
-    let after : ltb k (length (sets table 0 xs) / 4) ≡ true = lt-ltb k (length (sets table 0 xs) / 4) (omega (arith, length-sets table 0 xs)) in
-    ap (λ (b : Block). rowIn col (length (sets table 0 xs) / 4) b s r) (filled-block table xs k fit inside)
-    ∙ counted-alike col (blockAt xs k) s r (length (sets table 0 xs) / 4) (length xs / 4) (rw e after) (rw e there)
+    let inside : k < length xs = ltb-true k (length xs) there in
+    let after : ltb k (length (sets table 0 xs)) ≡ true = lt-ltb k (length (sets table 0 xs)) (omega (arith, length-sets table 0 xs)) in
+    ap (λ (b : Block). rowIn col (length (sets table 0 xs)) b s r) (filled-block table xs k fit inside)
+    ∙ counted-alike col (blockAt xs k) s r (length (sets table 0 xs)) (length xs) (rw e after) (rw e there)
 
--- reading through a lent table that was filled is reading through the opening's own numbers: entries past them do not matter
-pub filled-row : (o : Loaded) (table s : List ℕ) (r : ℕ) → length (o .table) ≤ length table → hasBlock (o .column .codec) (length (o .table) / 4) (columnRow (o .column) r) ≡ true
+-- reading through a lent table that was filled is reading through the opening's own blocks: entries past them do not matter
+pub filled-row : (o : Loaded) (table : List Block) (s : List ℕ) (r : ℕ) → length (o .table) ≤ length table → hasBlock (o .column .codec) (length (o .table)) (columnRow (o .column) r) ≡ true
     → rowAt (o .column) (filledBy o table) s r ≡ rowAt (o .column) (o .table) s r
 filled-row o table s r fit there = filled-reading (o .column) (o .column .codec) refl table (o .table) s r fit there
 
@@ -96,7 +86,7 @@ module _ {long room : ℕ} {o : Loaded} (laid : Laid long room o) (s : List ℕ)
   row-there = omega (arith, laid .window)
 
   -- column, table and bytes fit together
-  pub row-fits : fits (o .column) (length (o .table) / 4) (blockAt (o .table) (at / 512)) s at ≡ true
+  pub row-fits : fits (o .column) (length (o .table)) (blockAt (o .table) (at / 512)) s at ≡ true
   unfolding fits columnFits rowFits
   row-fits =
       let p = placeOf (o .column) (blockAt (o .table) (at / 512)) at in
@@ -117,7 +107,7 @@ module _ {long room : ℕ} {o : Loaded} (laid : Laid long room o) (s : List ℕ)
   row-answers = rw (lt-ltb r (o .column .window .rows) h, row-fits)
 
   -- the same through a lent table that the opening filled
-  pub answer-is : (table : List ℕ) → 4 * room ≤ length table → answered o table s r ≡ askedAs r (valueOf o s at)
+  pub answer-is : (table : List Block) → room ≤ length table → answered o table s r ≡ askedAs r (valueOf o s at)
   answer-is table enough = filled-row o table s r (omega (arith, laid .table)) (laid .rows .present at row-there) ∙ row-answers
 
 -- ---- a row's packed number and its bits
@@ -228,9 +218,9 @@ value-or-14 Blockwise col b r q n =
     tested (leb m (col .count)) r q (col .minimum + col .gcd * m)
 
 -- a row of any window in it, read with the table that its opening filled, has a value or is refused 14: never 12, never 13
-pub own-row : (s table : List ℕ) (o : Loaded) → opened s (length table / 4) ≡ value o → (w : Window) → LiesIn w o → (r : ℕ) → r < w .rows
+pub own-row : (s : List ℕ) (table : List Block) (o : Loaded) → opened s (length table) ≡ value o → (w : Window) → LiesIn w o → (r : ℕ) → r < w .rows
     → ValueOr14 r (answered (inWindow o w) table s r)
 own-row s table o e w inside r h =
-    rw (answer-is (laid-in (opened-laid s (length table / 4) o e) w inside) s (omega arith) r h table (omega arith))
+    rw (answer-is (laid-in (opened-laid s (length table) o e) w inside) s (omega arith) r h table (omega arith))
     (value-or-14 (o .column .codec) (windowed (o .column) w) (blockAt (o .table) ((w .first + r) / 512)) r (w .first + r)
     (packedOf (windowed (o .column) w) (blockAt (o .table) ((w .first + r) / 512)) s (w .first + r)))

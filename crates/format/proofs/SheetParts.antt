@@ -86,23 +86,24 @@ fields-stand s at f e short =
 
 -- the fields of k blocks, up to the offset behind the last one's
 blocks-stand : (k : ℕ) (s : List ℕ) (at start rows bits : ℕ) (t : Table) (f : ℕ × ℕ) → readBlocks k s at start rows ≡ value t → t .spelling ≡ Shortest
-    → lastFields k s bits at ≡ value f → drop at s ≡ whole (entriesOf k (t .numbers)) ++ drop (f .1) s
+    → lastFields k s bits at ≡ value f → drop at s ≡ whole (entriesOf (t .blocks)) ++ drop (f .1) s
 unfolding readBlocks lastFields entriesOf joined
-blocks-stand zero s at start rows bits t f e short last = ap (λ (g : ℕ × ℕ). drop (g .1) s) (value-same last)
+blocks-stand zero s at start rows bits t f e short last =
+    subst (λ (x : Table). drop at s ≡ whole (entriesOf (x .blocks)) ++ drop (f .1) s) (value-same e) (ap (λ (g : ℕ × ℕ). drop (g .1) s) (value-same last))
 blocks-stand (suc k) s at start rows bits t f e short last =
     by-step (readFields s at) _ e λ g at-g e.
     by-step (readBlocks k s (g .next) (start + bytesFor (g .bits * min rows 512)) (rows - 512)) _ e λ u at-u e.
     let same = value-same e in
     let one = first-shortest (g .spelling) (u .spelling) (ap (λ (x : Table). x .spelling) same ∙ short) in
     let rest : lastFields k s (g .bits) (g .next) ≡ value f = rw at-g at last in
-    let later = whole (entriesOf k (u .numbers)) in
+    let later = whole (entriesOf (u .blocks)) in
     let a = spell (g .line .slope) in
     let b = spell (g .line .intercept) in
     let here : drop at s ≡ (a ++ (b ++ (g .bits ∷ later))) ++ drop (f .1) s =
     fields-stand s at g at-g (one .0)
     ∙ ap (λ (l : List ℕ). a ++ (b ++ (g .bits ∷ l))) (blocks-stand k s (g .next) _ (rows - 512) (g .bits) u f at-u (one .1) rest)
     ∙ simp append-assoc in
-    subst (λ (x : Table). drop at s ≡ whole (entriesOf (suc k) (x .numbers)) ++ drop (f .1) s) same here
+    subst (λ (x : Table). drop at s ≡ whole (entriesOf (x .blocks)) ++ drop (f .1) s) same here
 
 -- ---- what offends nothing
 
@@ -182,7 +183,7 @@ blockwise-parted s h room t f met =
     let end = footerEnd s in
     let start = footerStart s in
     let area = take (t .area) (drop (h .next) s) in
-    let blocks = entriesOf (blockCount (h .rows)) (t .numbers) in
+    let blocks = entriesOf (t .blocks) in
     by-step (ending (blockwiseOf h t .column .codec) (h .count) (h .rows) s) _ met λ e there met.
     by-step (lastFields (blockCount (h .rows)) (take end s) 0 start) _ there λ g last there.
     let fine = rw (← value-same there) at (faultless s (blockwiseOf h t .column) (blockwiseOf h t .spelling) e met) in

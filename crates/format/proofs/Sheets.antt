@@ -9,10 +9,9 @@ use mathlib.Core.Path.{_≡_, refl, ap, _∙_}
 use mathlib.Core.Option.{Option, none, some}
 use mathlib.Core.Logic.{_⊎_, inl, inr, ⊎-elim}
 use mathlib.Core.List.{List, [], _∷_, _++_}
-use Prim.Native.Nat.{ℕ, zero, suc, _+_, _-_, _*_, _/_, _%_, _^_, _≤_, _<_, min}
+use Prim.Native.Nat.{ℕ, zero, suc, _+_, _-_, _*_, _%_, _^_, _≤_, _<_, min}
 use native.Mathlib.Nat.{mul-comm, div-eq-of-lt}
 use native.Mathlib.Omega.{arith}
-use lib.Dec.{ltb}
 use lib.ListN.{length, take, drop, getD, length-take, length-drop, List·getD-append}
 use lib.Seq.{getD-drop, drop-drop}
 use borrow.Author.Tests.{lt-ltb, le-ltb}
@@ -21,13 +20,13 @@ use Rattle.format.specs.declared.Fields.{Fields}
 use Rattle.format.specs.declared.Head.{Head}
 use Rattle.format.specs.declared.Spelling.the-variants.{Shortest}
 use Rattle.format.specs.Outcome.{Outcome, Outcome.value, Outcome.refusal, _>>_}
-use Rattle.format.specs.Word.{bytesFor, AllBelow}
+use Rattle.format.specs.Word.{bytesFor}
 use Rattle.format.specs.Packing.{numOf, rowsBits, bytesOf, packed}
 use Rattle.format.specs.Bodies.{blockCount}
 use Rattle.format.specs.Opening.{Loaded, Table, readFields, readBlocks, opened}
 use Rattle.format.specs.Sheets.{unclaimed, overfull, Ending, lastFields, ending, offending, clean, strict, underSheet, openedUnder}
 use Rattle.format.proofs.Lists.{below-or, all-take, all-drop}
-use Rattle.format.proofs.Outcomes.{not-value, value-same, by-step}
+use Rattle.format.proofs.Outcomes.{not-value, by-step}
 use Rattle.format.proofs.Openings.{OpensBitpacked, OpensLinear, OpensBlockwise, footerEnd, footerStart, by-opening}
 use Rattle.format.proofs.Bits.{numOf-below, rowsBits-bits, length-rowsBits}
 use Rattle.format.proofs.Packing.{length-packed}

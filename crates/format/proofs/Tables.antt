@@ -1,16 +1,17 @@
 -- What a block table that was read says: legal widths, and each block's bytes from the end of the one before.
 --     rowsIn, endAt                                     the rows of a block, and the byte behind its last
---     EntryRead, BlocksRead, blocks-read                four numbers a block; each block starts where the one before ends; other footers with the same bytes read alike
+--     EntryRead, BlocksRead, blocks-read                a block's fields; each block starts where the one before ends; other footers with the same bytes read alike
 --     blocks-lawful, blocks-order, blocks-inside        legal widths, and where blocks lie
 --     widthsBefore, blocks-start                        a block starts at the sum of 64 · width over the blocks before it
 -- Assumes nothing.
 use Prim.Native.Nat.{ℕ, zero, suc, _+_, _-_, _*_, _≤_, _<_, min}
-use mathlib.Core.Path.{_≡_, refl, sym, ap, ap₂, _∙_, subst}
+use mathlib.Core.Path.{_≡_, refl, sym, ap, _∙_, subst}
 use mathlib.Core.Bool.{true}
 use mathlib.Core.Logic.{⊎-elim}
-use mathlib.Core.List.{List, [], _∷_}
+use mathlib.Core.List.{List, []}
 use native.Mathlib.Omega.{arith}
-use lib.ListN.{length, getD}
+use lib.ListN.{length}
+use Rattle.format.specs.declared.Block.{Block}
 use Rattle.format.specs.declared.Fields.{Fields}
 use Rattle.format.specs.declared.Spelling.the-variants.{Shortest}
 use Rattle.format.specs.Outcome.{Outcome.value}
@@ -31,57 +32,38 @@ abbrev pub rowsIn : ℕ → ℕ → ℕ
 rowsIn rows b = min (rows - 512 * b) 512
 
 -- the byte behind a block's last
-abbrev pub endAt : ℕ → List ℕ → ℕ → ℕ
+abbrev pub endAt : ℕ → List Block → ℕ → ℕ
 endAt rows t b = blockAt t b .start + bytesFor (blockAt t b .bits * rowsIn rows b)
 
--- a table behind one block's numbers
-later : (w x y z : ℕ) (t : List ℕ) (i j : ℕ) → i ≡ 4 + j → getD (w ∷ x ∷ y ∷ z ∷ t) i 0 ≡ getD t j 0
-later w x y z t i j e =
-    let four : i ≡ suc (suc (suc (suc j))) = omega arith in
-    ap (λ (k : ℕ). getD (w ∷ x ∷ y ∷ z ∷ t) k 0) four
-
-module _ (f : Fields) (start : ℕ) (t : Table) (b : ℕ) where
-  slope-later : blockAt (blockBefore f start t .numbers) (suc b) .line .slope ≡ blockAt (t .numbers) b .line .slope
-  slope-later = later (f .line .slope) (f .line .intercept) (f .bits) start (t .numbers) (4 * suc b) (4 * b) (omega arith)
-
-  intercept-later : blockAt (blockBefore f start t .numbers) (suc b) .line .intercept ≡ blockAt (t .numbers) b .line .intercept
-  intercept-later = later (f .line .slope) (f .line .intercept) (f .bits) start (t .numbers) (4 * suc b + 1) (4 * b + 1) (omega arith)
-
-  bits-later : blockAt (blockBefore f start t .numbers) (suc b) .bits ≡ blockAt (t .numbers) b .bits
-  bits-later = later (f .line .slope) (f .line .intercept) (f .bits) start (t .numbers) (4 * suc b + 2) (4 * b + 2) (omega arith)
-
-  start-later : blockAt (blockBefore f start t .numbers) (suc b) .start ≡ blockAt (t .numbers) b .start
-  start-later = later (f .line .slope) (f .line .intercept) (f .bits) start (t .numbers) (4 * suc b + 3) (4 * b + 3) (omega arith)
-
-  end-later : (rows : ℕ) → endAt rows (blockBefore f start t .numbers) (suc b) ≡ endAt (rows - 512) (t .numbers) b
-  end-later rows =
-      let same : rowsIn rows (suc b) ≡ rowsIn (rows - 512) b = omega arith in
-      ap₂ (λ (p q : ℕ). p + q) start-later (ap₂ (λ (w n : ℕ). bytesFor (w * n)) bits-later same)
+-- a block behind one more ends where it ended before that
+end-later : (f : Fields) (start : ℕ) (t : Table) (b rows : ℕ) → endAt rows (blockBefore f start t .blocks) (suc b) ≡ endAt (rows - 512) (t .blocks) b
+end-later f start t b rows =
+    let same : rowsIn rows (suc b) ≡ rowsIn (rows - 512) b = omega arith in
+    ap (λ (n : ℕ). blockAt (t .blocks) b .start + bytesFor (blockAt (t .blocks) b .bits * n)) same
 
 -- ---- a table that was read
 
 -- block b's line and width are fields that were read at some offset from `at` on
-pub record EntryRead (s : List ℕ) (at : ℕ) (numbers : List ℕ) (b : ℕ) : Type 0 where
+pub record EntryRead (s : List ℕ) (at : ℕ) (blocks : List Block) (b : ℕ) : Type 0 where
   pub offset : ℕ
   pub late : at ≤ offset
   pub fields : Fields
   pub read : FieldsRead s offset fields
-  pub slope : blockAt numbers b .line .slope ≡ fields .line .slope
-  pub intercept : blockAt numbers b .line .intercept ≡ fields .line .intercept
-  pub bits : blockAt numbers b .bits ≡ fields .bits
+  pub line : blockAt blocks b .line ≡ fields .line
+  pub bits : blockAt blocks b .bits ≡ fields .bits
 
 -- k blocks of so many rows: their bytes follow one another from `start` to the table's area
 pub record BlocksRead (k : ℕ) (s : List ℕ) (at start rows : ℕ) (t : Table) : Type 0 where
-  pub long : length (t .numbers) ≡ 4 * k
-  pub entry : (b : ℕ) → b < k → EntryRead s at (t .numbers) b
+  pub long : length (t .blocks) ≡ k
+  pub entry : (b : ℕ) → b < k → EntryRead s at (t .blocks) b
   pub none : k ≡ 0 → start ≡ t .area
-  pub first : 0 < k → blockAt (t .numbers) 0 .start ≡ start
-  pub next : (b : ℕ) → suc b < k → blockAt (t .numbers) (suc b) .start ≡ endAt rows (t .numbers) b
-  pub last : (b : ℕ) → suc b ≡ k → endAt rows (t .numbers) b ≡ t .area
+  pub first : 0 < k → blockAt (t .blocks) 0 .start ≡ start
+  pub next : (b : ℕ) → suc b < k → blockAt (t .blocks) (suc b) .start ≡ endAt rows (t .blocks) b
+  pub last : (b : ℕ) → suc b ≡ k → endAt rows (t .blocks) b ≡ t .area
   pub elsewhere : (u : List ℕ) → length s ≡ length u → Agree s u at (length s) → readBlocks k u at start rows ≡ value t
 
 -- no blocks
-blocks-none : (s : List ℕ) (at start rows : ℕ) → BlocksRead 0 s at start rows (record { numbers = []; area = start; spelling = Shortest })
+blocks-none : (s : List ℕ) (at start rows : ℕ) → BlocksRead 0 s at start rows (record { blocks = []; area = start; spelling = Shortest })
 unfolding readBlocks
 blocks-none s at start rows = record {
   long = refl;
@@ -99,11 +81,11 @@ module _ (k : ℕ) (s : List ℕ) (at start rows : ℕ) (f : Fields) (t : Table)
   full : rowsIn rows 0 ≡ min rows 512
   full = omega arith
 
-  end-first : endAt rows (blockBefore f start t .numbers) 0 ≡ start + bytesFor (f .bits * min rows 512)
+  end-first : endAt rows (blockBefore f start t .blocks) 0 ≡ start + bytesFor (f .bits * min rows 512)
   end-first = ap (λ (n : ℕ). start + bytesFor (f .bits * n)) full
 
-  more-entry : (b : ℕ) → b < suc k → EntryRead s at (blockBefore f start t .numbers) b
-  more-entry zero h = record { offset = at; late = omega arith; fields = f; read = here; slope = refl; intercept = refl; bits = refl }
+  more-entry : (b : ℕ) → b < suc k → EntryRead s at (blockBefore f start t .blocks) b
+  more-entry zero h = record { offset = at; late = omega arith; fields = f; read = here; line = refl; bits = refl }
   more-entry (suc b) h =
       let e = rest .entry b (omega arith) in
       record {
@@ -111,16 +93,15 @@ module _ (k : ℕ) (s : List ℕ) (at start rows : ℕ) (f : Fields) (t : Table)
         late = omega (arith, here .some, e .late);
         fields = e .fields;
         read = e .read;
-        slope = slope-later f start t b ∙ e .slope;
-        intercept = intercept-later f start t b ∙ e .intercept;
-        bits = bits-later f start t b ∙ e .bits;
+        line = e .line;
+        bits = e .bits;
       }
 
-  more-next : (b : ℕ) → suc b < suc k → blockAt (blockBefore f start t .numbers) (suc b) .start ≡ endAt rows (blockBefore f start t .numbers) b
-  more-next zero h = start-later f start t 0 ∙ rest .first (omega arith) ∙ sym end-first
-  more-next (suc b) h = start-later f start t (suc b) ∙ rest .next b (omega arith) ∙ sym (end-later f start t b rows)
+  more-next : (b : ℕ) → suc b < suc k → blockAt (blockBefore f start t .blocks) (suc b) .start ≡ endAt rows (blockBefore f start t .blocks) b
+  more-next zero h = rest .first (omega arith) ∙ sym end-first
+  more-next (suc b) h = rest .next b (omega arith) ∙ sym (end-later f start t b rows)
 
-  more-last : (b : ℕ) → suc b ≡ suc k → endAt rows (blockBefore f start t .numbers) b ≡ t .area
+  more-last : (b : ℕ) → suc b ≡ suc k → endAt rows (blockBefore f start t .blocks) b ≡ t .area
   more-last zero e = end-first ∙ rest .none (omega arith)
   more-last (suc b) e = end-later f start t b rows ∙ rest .last b (omega arith)
 
@@ -155,11 +136,11 @@ blocks-read (suc k) s at start rows t e =
 
 module _ {k : ℕ} {s : List ℕ} {at start rows : ℕ} {t : Table} (r : BlocksRead k s at start rows t) where
   -- a block's width is legal
-  pub blocks-lawful : (b : ℕ) → b < k → legal (blockAt (t .numbers) b .bits) ≡ true
+  pub blocks-lawful : (b : ℕ) → b < k → legal (blockAt (t .blocks) b .bits) ≡ true
   blocks-lawful b h = ap (λ (w : ℕ). legal w) (r .entry b h .bits) ∙ r .entry b h .read .lawful
 
   -- an earlier block ends where a later one starts, or before
-  pub blocks-order : (a b : ℕ) → a < b → b < k → endAt rows (t .numbers) a ≤ blockAt (t .numbers) b .start
+  pub blocks-order : (a b : ℕ) → a < b → b < k → endAt rows (t .blocks) a ≤ blockAt (t .blocks) b .start
   blocks-order a zero h k-more = absurd (omega arith)
   blocks-order a (suc b) h k-more =
       ⊎-elim
@@ -170,12 +151,12 @@ module _ {k : ℕ} {s : List ℕ} {at start rows : ℕ} {t : Table} (r : BlocksR
       (below-or a b)
 
   -- each block ends inside the area
-  pub blocks-inside : (b : ℕ) → b < k → endAt rows (t .numbers) b ≤ t .area
+  pub blocks-inside : (b : ℕ) → b < k → endAt rows (t .blocks) b ≤ t .area
   blocks-inside b h =
       ⊎-elim
       (λ (early : suc b < k).
       let m = k - 1 in
-      let end : endAt rows (t .numbers) m ≡ t .area = r .last m (omega arith) in
+      let end : endAt rows (t .blocks) m ≡ t .area = r .last m (omega arith) in
       omega (arith, end, blocks-order b m (omega arith) (omega arith)))
       (λ (late : k ≤ suc b). omega (arith, r .last b (omega arith)))
       (below-or (suc b) k)
@@ -183,7 +164,7 @@ module _ {k : ℕ} {s : List ℕ} {at start rows : ℕ} {t : Table} (r : BlocksR
 -- ---- block starts as sums
 
 -- the widths of the first b blocks, added up
-unfoldable pub widthsBefore : List ℕ → ℕ → ℕ
+unfoldable pub widthsBefore : List Block → ℕ → ℕ
 widthsBefore t zero = 0
 widthsBefore t (suc b) = widthsBefore t b + blockAt t b .bits
 
@@ -195,9 +176,9 @@ full-block rows b w h =
 
 -- block b starts at 64 times the widths before it
 pub blocks-start : {s : List ℕ} {at start rows : ℕ} {t : Table} → BlocksRead (blockCount rows) s at start rows t
-    → (b : ℕ) → b < blockCount rows → blockAt (t .numbers) b .start ≡ start + 64 * widthsBefore (t .numbers) b
+    → (b : ℕ) → b < blockCount rows → blockAt (t .blocks) b .start ≡ start + 64 * widthsBefore (t .blocks) b
 unfolding widthsBefore
 blocks-start {s} {at} {start} {rows} {t} r zero h = r .first h ∙ omega arith
 blocks-start {s} {at} {start} {rows} {t} r (suc b) h =
     let ih = blocks-start r b (omega arith) in
-    omega (arith, ih, r .next b h, full-block rows b (blockAt (t .numbers) b .bits) h)
+    omega (arith, ih, r .next b h, full-block rows b (blockAt (t .blocks) b .bits) h)

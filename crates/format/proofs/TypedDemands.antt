@@ -10,11 +10,12 @@ use mathlib.Core.Path.{_≡_, refl, sym, ap, _∙_, subst}
 use mathlib.Core.Bool.{Bool, true, false, true≢false, false≢true}
 use mathlib.Core.Logic.{_⊎_, inl, inr}
 use mathlib.Core.List.{List, [], _∷_}
-use Prim.Native.Nat.{ℕ, zero, suc, _-_, _*_, _/_, _^_, _≤_, _<_, min}
+use Prim.Native.Nat.{ℕ, zero, suc, _-_, _^_, _≤_, _<_, min}
 use native.Mathlib.Omega.{arith}
 use lib.Dec.{ltb, leb}
 use lib.ListN.{length, drop, getD}
 use borrow.Author.Tests.{ltb-true, ltb-false}
+use Rattle.format.specs.declared.Block.{Block}
 use Rattle.format.specs.declared.Kind.{Kind}
 use Rattle.format.specs.declared.Kind.the-variants.{U64, I64, Date, Bool as Flag, F64}
 use Rattle.format.specs.declared.Spelling.the-variants.{Shortest}
@@ -72,7 +73,7 @@ module _ (kind : Kind) (xs : List ℕ) (each : AllBelow (2 ^ 64) xs) where
         (ap (λ (k : ℕ). foundIn (storedAs kind xs) (between (readingOf kind) low high) first (min end k - first)) (stored-length kind xs) ∙ passing-list first n (omega arith))
         ∙ sym (looked-up xs asked first end room)
 
-  gives-back-as : (bytes table : List ℕ) (o : Loaded) → GivesBack (storedAs kind xs) bytes table o → GivesBackAs kind xs bytes table o
+  gives-back-as : (bytes : List ℕ) (table : List Block) (o : Loaded) → GivesBack (storedAs kind xs) bytes table o → GivesBackAs kind xs bytes table o
   gives-back-as bytes table o g = record {
     count = g .count ∙ stored-length kind xs;
     rows = λ r h. rw (g .rows r (rw (stored-length kind xs) h)) (ap value (row-back r h));
@@ -94,14 +95,14 @@ returns-as kind xs cs bytes table room each e enough =
           (subst (λ (l : List ℕ). GivesBack l bytes table (inWindow o w)) (sym (stored-shown kind w xs)) (g .3 w inside)),
     )
 
-pub shortest-as : (kind : Kind) (xs cs bytes table : List ℕ) (room : ℕ) → AllBelow (2 ^ 64) xs → written (storedAs kind xs) cs room ≡ value bytes
-    → 4 * blockCount (length xs) ≤ length table → (o : Loaded) → opened bytes (length table / 4) ≡ value o → o .spelling ≡ Shortest
+pub shortest-as : (kind : Kind) (xs cs bytes : List ℕ) (table : List Block) (room : ℕ) → AllBelow (2 ^ 64) xs → written (storedAs kind xs) cs room ≡ value bytes
+    → blockCount (length xs) ≤ length table → (o : Loaded) → opened bytes (length table) ≡ value o → o .spelling ≡ Shortest
 shortest-as kind xs cs bytes table room each e enough =
     written-shortest (storedAs kind xs) cs bytes table room (stored-words kind xs each) e (rw (stored-length kind xs) enough)
 
-pub passes-as : (kind : Kind) (xs cs bytes table : List ℕ) (room : ℕ) → AllBelow (2 ^ 64) xs → written (storedAs kind xs) cs room ≡ value bytes
-    → 4 * blockCount (length xs) ≤ length table → (o : Loaded) → opened bytes (length table / 4) ≡ value o
-    → (openedUnder 1 bytes (length table / 4) ≡ value o) × (openedUnder 2 bytes (length table / 4) ≡ value o)
+pub passes-as : (kind : Kind) (xs cs bytes : List ℕ) (table : List Block) (room : ℕ) → AllBelow (2 ^ 64) xs → written (storedAs kind xs) cs room ≡ value bytes
+    → blockCount (length xs) ≤ length table → (o : Loaded) → opened bytes (length table) ≡ value o
+    → (openedUnder 1 bytes (length table) ≡ value o) × (openedUnder 2 bytes (length table) ≡ value o)
 passes-as kind xs cs bytes table room each e enough =
     written-passes (storedAs kind xs) cs bytes table room (stored-words kind xs each) e (rw (stored-length kind xs) enough)
 

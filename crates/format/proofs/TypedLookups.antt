@@ -11,7 +11,7 @@ use mathlib.Core.Bool.{Bool, true, false, not, _&&_, _||_, true≢false, false�
 use mathlib.Core.Logic.{_⊎_, inl, inr}
 use mathlib.Core.List.{List, [], _∷_}
 use Prim.Native.Nat.{ℕ, zero, suc, _+_, _-_, _*_, _/_, _^_, _≤_, _<_, min, zero-le, suc-le-suc}
-use native.Mathlib.Nat.{le-refl, le-trans, lt-of-le-of-lt, lt-of-lt-of-le, eq-or-lt-of-le, le-of-suc-le-suc, zero-lt-suc, mul-comm, mul-le-mul-left}
+use native.Mathlib.Nat.{le-refl, le-trans, lt-of-le-of-lt, lt-of-lt-of-le, eq-or-lt-of-le, le-of-suc-le-suc, zero-lt-suc, mul-comm}
 use native.Mathlib.Omega.{arith}
 use lib.Dec.{T, leb, ltb, leb→le, le→leb, not-T, T-not, leb·zero, leb·suc-zero}
 use lib.Ieee.Bits.{is-false}
@@ -69,14 +69,14 @@ asked-value : (r : ℕ) (o : Outcome ℕ) (u : ℕ) → askedAs r o ≡ value u 
 asked-value r (value v) u e = e
 asked-value r (refusal number also) u e = absurd (not-value e)
 
-pub row-words : (col : Column) (t s : List ℕ) → Words (rowAt col t s)
+pub row-words : (col : Column) (t : List Block) (s : List ℕ) → Words (rowAt col t s)
 unfolding rowIn
 row-words col t s r u e =
     let q = columnRow col r in
     let b = blockAt t (q / 512) in
     by-demand (ltb r (col .window .rows)) 12 [] _ e
-    (λ inside rest. by-demand (fits col (length t / 4) b s q) 13 [] _ rest
-    (λ fit is. value-words (col .codec) col b q (packedOf col b s q) u (bounds-small col (length t / 4) b s q fit) (asked-value r (valueAt col b s q) u is)))
+    (λ inside rest. by-demand (fits col (length t) b s q) 13 [] _ rest
+    (λ fit is. value-words (col .codec) col b q (packedOf col b s q) u (bounds-small col (length t) b s q fit) (asked-value r (valueAt col b s q) u is)))
 
 -- ---- tests that agree on numbers of 64 bits
 

@@ -2,10 +2,11 @@
 -- Assumes nothing.
 use Prim.Native.Nat.{ℕ}
 use mathlib.Core.List.{List, [], _∷_}
+use Rattle.format.specs.declared.Block.{Block}
 use Rattle.format.specs.declared.Codec.the-variants.{Bitpacked, Blockwise}
 use Rattle.format.specs.declared.Column.{Column}
 use Rattle.format.specs.Outcome.{Outcome.value, Outcome.refusal}
-use Rattle.format.proofs.Asking.{Case, Case._gives_, Asked.made, Asked.run, Asked.lookup, Asked.narrowing}
+use Rattle.format.proofs.Asking.{Case, Case._gives_, Asked.made, Asked.run, Asked.lookup, Asked.narrowing, block}
 
 -- numbers of two bits in the sixth byte, above 10 in tens; so many rows; a window of n rows from first on
 abbrev seen : (rows first n : ℕ) → Column
@@ -19,8 +20,8 @@ bytes b = 0x00 ∷ 0x8A ∷ 0x8A ∷ 0x82 ∷ 0x83 ∷ b ∷ []
 abbrev paged : (first n : ℕ) → Column
 paged first n = record { minimum = 0; gcd = 1; count = 1001; rows = 514; start = 0; size = 0; window = record { first = first; rows = n }; codec = Blockwise }
 
-abbrev table : List ℕ
-table = 4294967296 ∷ 0 ∷ 0 ∷ 0 ∷ 4294967296 ∷ 1000 ∷ 0 ∷ 0 ∷ []
+abbrev table : List Block
+table = block 4294967296 0 0 0 ∷ block 4294967296 1000 0 0 ∷ []
 
 abbrev pub windows : List Case
 windows =

@@ -14,6 +14,7 @@ use native.Mathlib.Omega.{arith}
 use lib.Dec.{leb, eqb}
 use lib.ListN.{length, length-map}
 use borrow.Author.Tests.{le-leb, leb-true}
+use Rattle.format.specs.declared.Block.{Block}
 use Rattle.format.specs.declared.Column.{Column}
 use Rattle.format.specs.Outcome.{Outcome, Outcome.value, Outcome.refusal, _>>=_, _>>_, demand, pick}
 use Rattle.format.specs.Opening.{Loaded, opened}
@@ -49,7 +50,7 @@ tested-from true k r o h = named-from k r o h
 tested-from false k r o h = refl
 
 -- a window's row answers as the column's does
-pub window-answer : (col : Column) (t s : List ℕ) (r : ℕ) → windowFits col ≡ true → r < col .window .rows
+pub window-answer : (col : Column) (t : List Block) (s : List ℕ) (r : ℕ) → windowFits col ≡ true → r < col .window .rows
     → rowAt col t s r ≡ countedFrom (col .window .first) (rowAt (wholly col) t s (columnRow col r))
 window-answer col t s r inside h =
     let k = col .window .first in
@@ -58,7 +59,7 @@ window-answer col t s r inside h =
     let there : q < col .rows = omega (arith, leb-true (col .window .first + col .window .rows) (col .rows) inside) in
     let is = wholly-row col t s q inside there in
     window-row col t s r inside h ∙ ap (askedAs r) is
-    ∙ tested-from (fits col (length t / 4) b s q) k r (valueAt col b s q) (value-or-14 (col .codec) col b q q (packedOf col b s q))
+    ∙ tested-from (fits col (length t) b s q) k r (valueAt col b s q) (value-or-14 (col .codec) col b q q (packedOf col b s q))
     ∙ ap (countedFrom k) (sym is)
 
 -- ---- runs and lookups, over a reading whose rows are those of another, moved by k
@@ -122,7 +123,7 @@ module _ (read all : ℕ → Outcome ℕ) (k : ℕ) where
 
 -- ---- a window's runs and lookups
 
-module _ (col : Column) (t s : List ℕ) (inside : windowFits col ≡ true) where
+module _ (col : Column) (t : List Block) (s : List ℕ) (inside : windowFits col ≡ true) where
   abbrev k : ℕ
   k = col .window .first
 
@@ -203,7 +204,7 @@ module _ (read : ℕ → Outcome ℕ) (never : (r : ℕ) → read r ≡ refusal 
 
 -- ---- opened, narrowed any number of times, and read with its own bytes and table
 
-module _ (s table : List ℕ) (o : Loaded) (e : opened s (length table / 4) ≡ value o) {d : Column} (from : NarrowedFrom (o .column) d) where
+module _ (s : List ℕ) (table : List Block) (o : Loaded) (e : opened s (length table) ≡ value o) {d : Column} (from : NarrowedFrom (o .column) d) where
   pub run-never-unfit : (first n : ℕ) → decoded (rowAt d (filledBy o table) s) (d .window .rows) first n ≡ refusal 13 [] → ⊥
   run-never-unfit first n = decoded-fits (rowAt d (filledBy o table) s) (never-unfit s table o e from) (d .window .rows) first n
 

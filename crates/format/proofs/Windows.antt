@@ -71,23 +71,23 @@ asked-tested true r q o = asked-twice r q o
 asked-tested false r q o = refl
 
 -- a row of a column seen as a whole
-pub wholly-row : (col : Column) (t s : List ℕ) (q : ℕ) → windowFits col ≡ true → q < col .rows
-    → rowAt (wholly col) t s q ≡ (demand (fits col (length t / 4) (blockAt t (q / 512)) s q) 13 [] >> askedAs q (valueAt col (blockAt t (q / 512)) s q))
+pub wholly-row : (col : Column) (t : List Block) (s : List ℕ) (q : ℕ) → windowFits col ≡ true → q < col .rows
+    → rowAt (wholly col) t s q ≡ (demand (fits col (length t) (blockAt t (q / 512)) s q) 13 [] >> askedAs q (valueAt col (blockAt t (q / 512)) s q))
 unfolding rowIn
 wholly-row col t s q inside h =
     let b = blockAt t (q / 512) in
-    rw (lt-ltb q (col .rows) h, zero-add q, fits-wholly col (length t / 4) b s q inside, value-wholly col b s q)
+    rw (lt-ltb q (col .rows) h, zero-add q, fits-wholly col (length t) b s q inside, value-wholly col b s q)
 
 -- a window's rows are the column's, moved by its first
-pub window-row : (col : Column) (t s : List ℕ) (r : ℕ) → windowFits col ≡ true → r < col .window .rows
+pub window-row : (col : Column) (t : List Block) (s : List ℕ) (r : ℕ) → windowFits col ≡ true → r < col .window .rows
     → rowAt col t s r ≡ askedAs r (rowAt (wholly col) t s (columnRow col r))
 unfolding rowIn
 window-row col t s r inside h =
     let q = columnRow col r in
     let b = blockAt t (q / 512) in
     let there : q < col .rows = omega (arith, leb-true (col .window .first + col .window .rows) (col .rows) inside) in
-    let one : rowAt col t s r ≡ (demand (fits col (length t / 4) b s q) 13 [] >> askedAs r (valueAt col b s q)) = rw (lt-ltb r (col .window .rows) h) in
-    one ∙ sym (asked-tested (fits col (length t / 4) b s q) r q (valueAt col b s q)) ∙ ap (askedAs r) (sym (wholly-row col t s q inside there))
+    let one : rowAt col t s r ≡ (demand (fits col (length t) b s q) 13 [] >> askedAs r (valueAt col b s q)) = rw (lt-ltb r (col .window .rows) h) in
+    one ∙ sym (asked-tested (fits col (length t) b s q) r q (valueAt col b s q)) ∙ ap (askedAs r) (sym (wholly-row col t s q inside there))
 
 -- ---- narrowing
 
@@ -147,11 +147,11 @@ seen-through s room o e (again {c} {d} first count from n) =
       is = a .is ∙ ap (λ (x : Column). windowed x (record { first = columnRow x first; rows = count })) (before .is);
     }
 
-module _ (s table : List ℕ) (o : Loaded) (e : opened s (length table / 4) ≡ value o) {d : Column} (from : NarrowedFrom (o .column) d) where
+module _ (s : List ℕ) (table : List Block) (o : Loaded) (e : opened s (length table) ≡ value o) {d : Column} (from : NarrowedFrom (o .column) d) where
   -- each of its rows has a value or is refused 14
   pub own-windows : (r : ℕ) → r < d .window .rows → ValueOr14 r (rowAt d (filledBy o table) s r)
   own-windows r =
-      let w = seen-through s (length table / 4) o e from in
+      let w = seen-through s (length table) o e from in
       subst (λ (c : Column). r < c .window .rows → ValueOr14 r (rowAt c (filledBy o table) s r)) (sym (w .is)) (own-row s table o e (w .window) (w .inside) r)
 
   -- and no row whatever meets 13

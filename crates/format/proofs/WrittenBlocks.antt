@@ -2,8 +2,8 @@
 --     blocks-split, length-blocks, blockOf, laterOf, parted, row-inside-block, row-of-block     how blocks part a list
 --     joined-append, joined-most                                                                lists one after another
 --     length-area, residuals-fit, block-back                                                    a block's packed bytes, and that line and bytes make its values
---     blockWidth-legal, entry-most, read-entry, numbersFrom, read-blocks                        the footer is read back
---     BlockAt, table-block, area-block                                                          where a block among others stands in table and area
+--     blockWidth-legal, entry-most, read-entry, blockFor, tableFrom, read-blocks                the footer is read back
+--     table-block, area-block                                                                   where a block among others stands in table and area
 -- Assumes nothing.
 use mathlib.Core.Path.{_≡_, refl, sym, ap, _∙_}
 use mathlib.Core.Bool.{true}
@@ -12,9 +12,9 @@ use Prim.Native.Nat.{ℕ, zero, suc, _+_, _-_, _*_, _/_, _%_, _^_, _≤_, _<_, m
 use native.Mathlib.Nat.{zero-add, add-zero, suc-add, min-comm}
 use native.Mathlib.Omega.{arith}
 use lib.ListN.{length, take, drop, getD, length-append, length-take, length-drop}
-use lib.Seq.{drop-drop, drop-append-add, drop-append-seam, getD-take, getD-drop, getD-append-add}
+use lib.Seq.{drop-drop, drop-append-add, drop-append-seam, getD-take, getD-drop, getD-append-seam}
+use Rattle.format.specs.declared.Block.{Block}
 use Rattle.format.specs.declared.Fields.{Fields}
-use Rattle.format.specs.declared.Line.{Line}
 use Rattle.format.specs.declared.Spelling.the-variants.{Shortest}
 use Rattle.format.specs.Outcome.{Outcome.value}
 use Rattle.format.specs.Word.{bytesFor, modAdd, AllBelow}
@@ -24,7 +24,7 @@ use Rattle.format.specs.Stats.{greatest}
 use Rattle.format.specs.Line.{lineAt, trained, residuals, spellLine}
 use Rattle.format.specs.Bodies.{blocks, blocksIn, blockCount, blockResiduals, blockWidth, blockArea, blockEntry, joined, footer}
 use Rattle.format.specs.Opening.{readFields, Table, readBlocks}
-use Rattle.format.specs.Reading.{blockAt}
+use Rattle.format.specs.Reading.{noBlock, blockAt}
 use Rattle.format.proofs.Lists.{drop-past}
 use Rattle.format.proofs.Packing.{length-packed, round-trip}
 use Rattle.format.proofs.Widths.{width-legal, width-fits}
@@ -110,32 +110,34 @@ read-entry s at ys more e =
 
 -- ---- the footer
 
--- the table of some blocks: slope, intercept, width and start byte of each, the first block's bytes starting at `start`
-unfoldable pub numbersFrom : ℕ → List (List ℕ) → List ℕ
-numbersFrom start [] = []
-numbersFrom start (b ∷ bs) = trained b .slope ∷ trained b .intercept ∷ blockWidth b ∷ start ∷ numbersFrom (start + length (blockArea b)) bs
+-- a block's line, width and start byte, as opening finds them
+abbrev pub blockFor : ℕ → List ℕ → Block
+blockFor start ys = record { line = trained ys; bits = blockWidth ys; start = start }
 
-pub length-numbers : (start : ℕ) (bs : List (List ℕ)) → length (numbersFrom start bs) ≡ 4 * length bs
-unfolding numbersFrom
-length-numbers start [] = refl
-length-numbers start (b ∷ bs) =
-    let ih = length-numbers (start + length (blockArea b)) bs in
-    omega arith
+-- the table of some blocks, the first block's bytes starting at `start`
+unfoldable pub tableFrom : ℕ → List (List ℕ) → List Block
+tableFrom start [] = []
+tableFrom start (b ∷ bs) = blockFor start b ∷ tableFrom (start + length (blockArea b)) bs
+
+pub length-table : (start : ℕ) (bs : List (List ℕ)) → length (tableFrom start bs) ≡ length bs
+unfolding tableFrom
+length-table start [] = refl
+length-table start (b ∷ bs) = ap suc (length-table (start + length (blockArea b)) bs)
 
 -- later blocks start behind the earlier ones' areas
-pub numbers-append : (start : ℕ) (a b : List (List ℕ)) → numbersFrom start (a ++ b) ≡ numbersFrom start a ++ numbersFrom (start + length (joined blockArea a)) b
-unfolding numbersFrom joined
-numbers-append start [] b = rw (add-zero start)
-numbers-append start (x ∷ a) b =
+pub table-append : (start : ℕ) (a b : List (List ℕ)) → tableFrom start (a ++ b) ≡ tableFrom start a ++ tableFrom (start + length (joined blockArea a)) b
+unfolding tableFrom joined
+table-append start [] b = rw (add-zero start)
+table-append start (x ∷ a) b =
     let moved : start + length (blockArea x) + length (joined blockArea a) ≡ start + length (blockArea x ++ joined blockArea a) = omega (arith, length-append (blockArea x) (joined blockArea a)) in
-    rw (← moved) (ap (λ (l : List ℕ). trained x .slope ∷ trained x .intercept ∷ blockWidth x ∷ start ∷ l) (numbers-append (start + length (blockArea x)) a b))
+    rw (← moved) (ap (λ (l : List Block). blockFor start x ∷ l) (table-append (start + length (blockArea x)) a b))
 
 abbrev pub tableOf : ℕ → List (List ℕ) → Table
-tableOf start bs = record { numbers = numbersFrom start bs; area = start + length (joined blockArea bs); spelling = Shortest }
+tableOf start bs = record { blocks = tableFrom start bs; area = start + length (joined blockArea bs); spelling = Shortest }
 
 -- where a footer stands, its blocks' table is read, whatever follows
 pub read-blocks : (k : ℕ) (ns s : List ℕ) (at start : ℕ) (more : List ℕ) → drop at s ≡ footer (blocksIn k ns) ++ more → readBlocks k s at start (length ns) ≡ value (tableOf start (blocksIn k ns))
-unfolding readBlocks blocksIn footer joined numbersFrom
+unfolding readBlocks blocksIn footer joined tableFrom
 read-blocks zero ns s at start more e = rw (add-zero start)
 read-blocks (suc k) ns s at start more e =
     let b = take 512 ns in
@@ -170,30 +172,16 @@ row-of-block ns r =
     let at : 512 * (r / 512) + r % 512 ≡ r = omega arith in
     getD-take 512 (drop (512 * (r / 512)) ns) (r % 512) 0 (omega arith) ∙ getD-drop (512 * (r / 512)) ns (r % 512) 0 ∙ ap (λ (n : ℕ). getD ns n 0) at
 
--- the four numbers of block k in a table
-pub record BlockAt (t : List ℕ) (k : ℕ) (l : Line) (w start : ℕ) : Type 0 where
-  pub slope : blockAt t k .line .slope ≡ l .slope
-  pub intercept : blockAt t k .line .intercept ≡ l .intercept
-  pub bits : blockAt t k .bits ≡ w
-  pub begins : blockAt t k .start ≡ start
-
--- four numbers behind 4 · k others are those of block k
-block-at : (t others rest : List ℕ) (k : ℕ) (l : Line) (w start : ℕ) → t ≡ others ++ (l .slope ∷ l .intercept ∷ w ∷ start ∷ rest) → length others ≡ 4 * k → BlockAt t k l w start
-block-at t others rest k l w start e long =
-    let four = l .slope ∷ l .intercept ∷ w ∷ start ∷ rest in
-    let at : (i : ℕ) → getD t (4 * k + i) 0 ≡ getD four i 0 = λ i. rw (e, ← long) (getD-append-add others four i 0) in
-    record { slope = ap (λ (n : ℕ). getD t n 0) (sym (add-zero (4 * k))) ∙ at 0; intercept = at 1; bits = at 2; begins = at 3 }
-
 module _ (before : List (List ℕ)) (block : List ℕ) (after : List (List ℕ)) where
-  -- the blocks' numbers hold each block's four
-  pub table-block : (k : ℕ) → length before ≡ k
-      → BlockAt (numbersFrom 0 (before ++ (block ∷ after))) k (trained block) (blockWidth block) (length (joined blockArea before))
-  unfolding numbersFrom
+  -- the blocks' table holds each block
+  pub table-block : (k : ℕ) → length before ≡ k → blockAt (tableFrom 0 (before ++ (block ∷ after))) k ≡ blockFor (length (joined blockArea before)) block
+  unfolding tableFrom
   table-block k e =
       let start = length (joined blockArea before) in
-      let four = trained block .slope ∷ trained block .intercept ∷ blockWidth block ∷ start ∷ numbersFrom (start + length (blockArea block)) after in
-      let split : numbersFrom 0 (before ++ (block ∷ after)) ≡ numbersFrom 0 before ++ four = numbers-append 0 before (block ∷ after) ∙ rw (zero-add start) in
-      block-at _ (numbersFrom 0 before) _ k (trained block) (blockWidth block) start split (length-numbers 0 before ∙ ap (λ (n : ℕ). 4 * n) e)
+      let split : tableFrom 0 (before ++ (block ∷ after)) ≡ tableFrom 0 before ++ (blockFor start block ∷ tableFrom (start + length (blockArea block)) after) =
+      table-append 0 before (block ∷ after) ∙ rw (zero-add start) in
+      let place : k ≡ length (tableFrom 0 before) = sym e ∙ sym (length-table 0 before) in
+      rw (split, place) (getD-append-seam (tableFrom 0 before) (blockFor start block) _ noBlock)
 
   -- the joined areas, parted at a block
   pub area-split : joined blockArea (before ++ (block ∷ after)) ≡ joined blockArea before ++ (blockArea block ++ joined blockArea after)

@@ -1,12 +1,13 @@
 -- What is asked of the parts and of the rows that a byte names, as statements about the definitions.
 -- Assumes nothing.
-use Prim.Native.Nat.{ℕ, _+_, _*_, _/_, _≤_, _<_}
+use Prim.Native.Nat.{ℕ, _+_, _*_, _≤_, _<_}
 use mathlib.Core.Path.{_≡_}
 use mathlib.Core.Bool.{Bool, _&&_}
-use mathlib.Core.Option.{Option, some}
+use mathlib.Core.Option.{some}
 use mathlib.Core.List.{List, [], _∷_}
 use lib.Dec.{ltb, leb}
 use lib.ListN.{length, getD}
+use Rattle.format.specs.declared.Block.{Block}
 use Rattle.format.specs.declared.PartName.the-variants.{Area, Behind}
 use Rattle.format.specs.declared.Part.{Part}
 use Rattle.format.specs.declared.Owners.{Owners}
@@ -80,7 +81,7 @@ abbrev pub Untouched : Loaded → (s t : List ℕ) (r : ℕ) → Type 0
 Untouched o s t r = (i : ℕ) → Named (ownersAt (o .column) (o .table) i) r → getD s i 0 ≡ getD t i 0
 
 -- they open alike; a row that no differing byte names answers the same; so does one whose own bits agree; one whose bits differ answers otherwise, unless both answers are 14
-pub record Blames (s t table other : List ℕ) (o p : Loaded) : Type 0 where
+pub record Blames (s t : List ℕ) (table other : List Block) (o p : Loaded) : Type 0 where
   pub same : o ≡ p
   pub untouched : (r : ℕ) → r < o .column .rows → Untouched o s t r → answered o table s r ≡ answered p other t r
   pub agree : (r : ℕ) → r < o .column .rows → SameBits o s t r → answered o table s r ≡ answered p other t r
@@ -89,7 +90,7 @@ pub record Blames (s t table other : List ℕ) (o p : Loaded) : Type 0 where
 -- two such byte strings, each opened with a table of its own
 abbrev pub Blame : Type 0
 Blame =
-    (s t table other : List ℕ) (o p : Loaded) → opened s (length table / 4) ≡ value o → opened t (length other / 4) ≡ value p
+    (s t : List ℕ) (table other : List Block) (o p : Loaded) → opened s (length table) ≡ value o → opened t (length other) ≡ value p
     → SameFields s t o → Blames s t table other o p
 
 -- bytes that agree but for one
@@ -105,6 +106,6 @@ BlameOne =
 -- where bytes behind the area differ and no others, every row answers the same
 abbrev pub BlameNone : Type 0
 BlameNone =
-    (s t table other : List ℕ) (o p : Loaded) → opened s (length table / 4) ≡ value o → opened t (length other / 4) ≡ value p
+    (s t : List ℕ) (table other : List Block) (o p : Loaded) → opened s (length table) ≡ value o → opened t (length other) ≡ value p
     → SameFields s t o → ((i : ℕ) → i < o .column .start + o .column .size → getD s i 0 ≡ getD t i 0)
     → (r : ℕ) → r < o .column .rows → answered o table s r ≡ answered p other t r

@@ -3,6 +3,7 @@
 use Prim.Native.Nat.{ℕ}
 use mathlib.Core.Path.{_≡_}
 use mathlib.Core.List.{List}
+use Rattle.format.specs.declared.Block.{Block}
 use Rattle.format.specs.declared.Found.{Found}
 use Rattle.format.specs.declared.Opened.{Opened}
 use Rattle.format.specs.declared.RunRead.{RunRead}
@@ -29,6 +30,6 @@ abbrev pub RunAs : Outcome (List ℕ) → RunRead → (before after : List ℕ) 
 RunAs o r before after = StoresAs o (runMeaning r) before after
 
 -- of opening: the blocks stand in the table
-pub record OpenedAs (o : Outcome Loaded) (r : Opened) (before after : List ℕ) : Type 0 where
+pub record OpenedAs (o : Outcome Loaded) (r : Opened) (before after : List Block) : Type 0 where
   pub answer : openedMeaning r ≡ columnIn o
   pub table : after ≡ stored (tableIn o) before

@@ -5,6 +5,7 @@ use mathlib.Core.Path.{_≡_}
 use mathlib.Core.Logic.{_⊎_}
 use mathlib.Core.List.{List, [], _∷_}
 use lib.ListN.{length, take, drop, getD}
+use Rattle.format.specs.declared.Block.{Block}
 use Rattle.format.specs.declared.Kind.{Kind}
 use Rattle.format.specs.declared.Window.{Window}
 use Rattle.format.specs.Outcome.{Outcome, Outcome.value, Outcome.refusal, stored}
@@ -19,11 +20,11 @@ use Rattle.format.specs.Lookup.{lookedUp, within}
 use Rattle.format.specs.Typed.{storedAs, readAs, readingOf, meant, lies, between, signedOf, flagOf, floatOf}
 
 -- a lent table after an opening that filled it
-abbrev pub filledBy : Loaded → (table : List ℕ) → List ℕ
+abbrev pub filledBy : Loaded → (table : List Block) → List Block
 filledBy o table = stored (value (o .table)) table
 
 -- a row's answer from some bytes that were opened with a lent table
-abbrev pub answered : Loaded → (table s : List ℕ) (r : ℕ) → Outcome ℕ
+abbrev pub answered : Loaded → (table : List Block) (s : List ℕ) (r : ℕ) → Outcome ℕ
 answered o table s r = rowAt (o .column) (filledBy o table) s r
 
 -- a window lies in an opened column
@@ -37,7 +38,7 @@ abbrev pub readsAs : (vs : List ℕ) (r : ℕ) → Outcome ℕ
 readsAs vs r = value (getD vs r 0)
 
 -- the window of an opened column gives back a list: as many rows, each row, and every lookup
-pub record GivesBack (vs bytes table : List ℕ) (o : Loaded) : Type 0 where
+pub record GivesBack (vs bytes : List ℕ) (table : List Block) (o : Loaded) : Type 0 where
   pub count : o .column .window .rows ≡ length vs
   pub rows : (r : ℕ) → r < length vs → answered o table bytes r ≡ readsAs vs r
   pub found : (low high first end room : ℕ)
@@ -51,9 +52,9 @@ shown w vs = take (w .rows) (drop (w .first) vs)
 -- what was written opens, with any table that has room for its blocks, and gives back the list; any window in it gives back its part of the list
 abbrev pub Returns : Type 0
 Returns =
-    (vs cs bytes table : List ℕ) (room : ℕ) → AllBelow (2 ^ 64) vs → written vs cs room ≡ value bytes
-    → 4 * blockCount (length vs) ≤ length table
-    → (o : Loaded) × (opened bytes (length table / 4) ≡ value o) × GivesBack vs bytes table o
+    (vs cs bytes : List ℕ) (table : List Block) (room : ℕ) → AllBelow (2 ^ 64) vs → written vs cs room ≡ value bytes
+    → blockCount (length vs) ≤ length table
+    → (o : Loaded) × (opened bytes (length table) ≡ value o) × GivesBack vs bytes table o
     × ((w : Window) → LiesIn w o → GivesBack (shown w vs) bytes table (inWindow o w))
 
 -- a codec applies to some values: Linear from 512 on
@@ -116,7 +117,7 @@ abbrev pub Differ : (r : ℕ) (a b : Outcome ℕ) → Type 0
 Differ r a b = (a ≡ b → ⊥) ⊎ ((a ≡ refusal 14 (r ∷ [])) × (b ≡ refusal 14 (r ∷ [])))
 
 -- they open alike; of any window, a row whose bits agree answers the same; one whose bits differ answers otherwise, unless both answers are 14
-pub record RowsTell (s t table other : List ℕ) (o p : Loaded) : Type 0 where
+pub record RowsTell (s t : List ℕ) (table other : List Block) (o p : Loaded) : Type 0 where
   pub same : o ≡ p
   pub agree : (w : Window) → LiesIn w o → (r : ℕ) → r < w .rows → SameBits o s t (w .first + r)
       → answered (inWindow o w) table s r ≡ answered (inWindow p w) other t r
@@ -126,7 +127,7 @@ pub record RowsTell (s t table other : List ℕ) (o p : Loaded) : Type 0 where
 -- two such byte strings, each opened with a table of its own, are told apart row by row
 abbrev pub Tell : Type 0
 Tell =
-    (s t table other : List ℕ) (o p : Loaded) → opened s (length table / 4) ≡ value o → opened t (length other / 4) ≡ value p
+    (s t : List ℕ) (table other : List Block) (o p : Loaded) → opened s (length table) ≡ value o → opened t (length other) ≡ value p
     → Alike s t o → RowsTell s t table other o p
 
 -- demand 3
@@ -136,7 +137,7 @@ Demand3 = Inside × Apart × Tell
 -- ---- both, of columns of other kinds
 
 -- the window of an opened column gives back a list of values of a kind: as many rows, each row's value, and every lookup by values
-pub record GivesBackAs (kind : Kind) (xs bytes table : List ℕ) (o : Loaded) : Type 0 where
+pub record GivesBackAs (kind : Kind) (xs bytes : List ℕ) (table : List Block) (o : Loaded) : Type 0 where
   pub count : o .column .window .rows ≡ length xs
   pub rows : (r : ℕ) → r < length xs → readAs (readingOf kind .value) (answered o table bytes r) ≡ value (meant kind (getD xs r 0))
   pub found : (low high : readingOf kind .Value) (first end room : ℕ)
@@ -146,9 +147,9 @@ pub record GivesBackAs (kind : Kind) (xs bytes table : List ℕ) (o : Loaded) : 
 -- what was written of such a list opens, and gives it back, and any window in it its part
 abbrev pub ReturnsAs : Kind → Type 0
 ReturnsAs kind =
-    (xs cs bytes table : List ℕ) (room : ℕ) → AllBelow (2 ^ 64) xs → written (storedAs kind xs) cs room ≡ value bytes
-    → 4 * blockCount (length xs) ≤ length table
-    → (o : Loaded) × (opened bytes (length table / 4) ≡ value o) × GivesBackAs kind xs bytes table o
+    (xs cs bytes : List ℕ) (table : List Block) (room : ℕ) → AllBelow (2 ^ 64) xs → written (storedAs kind xs) cs room ≡ value bytes
+    → blockCount (length xs) ≤ length table
+    → (o : Loaded) × (opened bytes (length table) ≡ value o) × GivesBackAs kind xs bytes table o
     × ((w : Window) → LiesIn w o → GivesBackAs kind (shown w xs) bytes table (inWindow o w))
 
 -- what two answers for a row read as differs, unless both are 14
@@ -173,6 +174,6 @@ pub record TellAs (r : ℕ) (a b : Outcome ℕ) : Type 0 where
 -- a row of a window whose bits differ answers so
 abbrev pub TellTyped : Type 0
 TellTyped =
-    (s t table other : List ℕ) (o p : Loaded) → opened s (length table / 4) ≡ value o → opened t (length other / 4) ≡ value p → Alike s t o
+    (s t : List ℕ) (table other : List Block) (o p : Loaded) → opened s (length table) ≡ value o → opened t (length other) ≡ value p → Alike s t o
     → (w : Window) → LiesIn w o → (r : ℕ) → r < w .rows → (SameBits o s t (w .first + r) → ⊥)
     → TellAs r (answered (inWindow o w) table s r) (answered (inWindow p w) other t r)

@@ -10,6 +10,7 @@ use Rattle.format.specs.declared.Field.{Field}
 use Rattle.format.specs.declared.Codec.{Codec}
 use Rattle.format.specs.declared.Codec.the-variants.{Bitpacked, Linear, Blockwise}
 use Rattle.format.specs.declared.Column.{Column}
+use Rattle.format.specs.declared.Block.{Block}
 use Rattle.format.specs.declared.PartName.{PartName}
 use Rattle.format.specs.declared.PartName.the-variants.{Code, Minimum, Gcd, Count, Rows, Slope, Intercept, Width, Area, Behind, BlockSlope, BlockIntercept, BlockWidth, Spare, FooterLength}
 use Rattle.format.specs.declared.Shape.{Shape}
@@ -159,7 +160,7 @@ runOwners u j =
     NoRow
 
 -- the rows of block k, of so many in all blocks
-abbrev pub blockRun : (table : List ℕ) (rows k : ℕ) → Run
+abbrev pub blockRun : (table : List Block) (rows k : ℕ) → Run
 blockRun t rows k = record { start = blockAt t k .start; bits = blockAt t k .bits; first = 512 * k; rows = min (rows - 512 * k) 512 }
 
 -- one answer, or another where it names no row
@@ -168,16 +169,16 @@ orElse (OwnRows first last) other = OwnRows first last
 orElse NoRow other = other
 
 -- the same over n blocks from block k on
-unfoldable pub blockOwners : (table : List ℕ) (rows k n j : ℕ) → Owners
+unfoldable pub blockOwners : (table : List Block) (rows k n j : ℕ) → Owners
 blockOwners t rows k zero j = NoRow
 blockOwners t rows k (suc n) j = orElse (runOwners (blockRun t rows k) j) (blockOwners t rows (suc k) n j)
 
 -- by the codec
-unfoldable pub areaOwners : Codec → (count rows : ℕ) (table : List ℕ) (j : ℕ) → Owners
+unfoldable pub areaOwners : Codec → (count rows : ℕ) (table : List Block) (j : ℕ) → Owners
 areaOwners Bitpacked count rows t j = runOwners (record { start = 0; bits = width count; first = 0; rows = rows }) j
 areaOwners (Linear l w) count rows t j = runOwners (record { start = 0; bits = w; first = 0; rows = rows }) j
 areaOwners Blockwise count rows t j = blockOwners t rows 0 (blockCount rows) j
 
 -- the rows that own a bit of the byte at an offset; none does before the area
-unfoldable pub ownersAt : Column → (table : List ℕ) (i : ℕ) → Owners
+unfoldable pub ownersAt : Column → (table : List Block) (i : ℕ) → Owners
 ownersAt col t i = pick (leb (col .start) i) (areaOwners (col .codec) (col .count) (col .rows) t (i - col .start)) NoRow

@@ -15,14 +15,13 @@ use Rattle.format.specs.Word.{modAdd}
 use Rattle.format.specs.Packing.{width, legal, unpack}
 use Rattle.format.specs.Line.{lineAt}
 
--- block b of a table, four numbers a block; a block past the table's end is all zeros
-abbrev pub blockAt : (t : List ℕ) (b : ℕ) → Block
-blockAt t b =
-    record {
-      line = record { slope = getD t (4 * b) 0; intercept = getD t (4 * b + 1) 0 };
-      bits = getD t (4 * b + 2) 0;
-      start = getD t (4 * b + 3) 0;
-    }
+-- a block of zeros
+abbrev pub noBlock : Block
+noBlock = record { line = record { slope = 0; intercept = 0 }; bits = 0; start = 0 }
+
+-- block b of a table; past the table's end it is a block of zeros
+abbrev pub blockAt : (t : List Block) (b : ℕ) → Block
+blockAt t b = getD t b noBlock
 
 -- whether a table of so many blocks has a row's: row r of a column is row r % 512 of block r / 512
 abbrev pub hasBlock : Codec → (blocks r : ℕ) → Bool
@@ -111,5 +110,5 @@ rowIn col blocks b s r = do
   askedAs r (valueAt col b s (columnRow col r))
 
 -- reading row r of a column's window, with its table and its bytes; the block is that of the column's row
-abbrev pub rowAt : Column → (t s : List ℕ) (r : ℕ) → Outcome ℕ
-rowAt col t s r = rowIn col (length t / 4) (blockAt t (columnRow col r / 512)) s r
+abbrev pub rowAt : Column → (t : List Block) (s : List ℕ) (r : ℕ) → Outcome ℕ
+rowAt col t s r = rowIn col (length t) (blockAt t (columnRow col r / 512)) s r

@@ -10,6 +10,7 @@ use lib.ListN.{length, take, drop, getD}
 use Rattle.format.specs.declared.Codec.{Codec}
 use Rattle.format.specs.declared.Codec.the-variants.{Bitpacked, Linear, Blockwise}
 use Rattle.format.specs.declared.Column.{Column}
+use Rattle.format.specs.declared.Block.{Block}
 use Rattle.format.specs.declared.Fields.{Fields}
 use Rattle.format.specs.declared.Spelling.{Spelling}
 use Rattle.format.specs.declared.Spelling.the-variants.{Shortest, Longer}
@@ -94,16 +95,16 @@ openedUnder sheet s room = underSheet sheet s (opened s room)
 
 -- ---- the parts of a column
 
--- the fields of k blocks in a footer, three a block, from the numbers of the table
-unfoldable pub entriesOf : (k : ℕ) (table : List ℕ) → List (List ℕ)
-entriesOf zero table = []
-entriesOf (suc k) table = spell (getD table 0 0) ∷ spell (getD table 1 0) ∷ (getD table 2 0 ∷ []) ∷ entriesOf k (drop 4 table)
+-- the fields of a table's blocks in a footer, three a block
+unfoldable pub entriesOf : (table : List Block) → List (List ℕ)
+entriesOf [] = []
+entriesOf (b ∷ bs) = spell (b .line .slope) ∷ spell (b .line .intercept) ∷ (b .bits ∷ []) ∷ entriesOf bs
 
 -- the parts behind the head: Linear's line and width before the area; Blockwise's footer behind it, with its length in four bytes
-abbrev pub bodyParts : Codec → (blocks : ℕ) (table area four : List ℕ) → List (List ℕ)
-bodyParts Bitpacked blocks table area four = area ∷ []
-bodyParts (Linear l w) blocks table area four = spell (l .slope) ∷ spell (l .intercept) ∷ (w ∷ []) ∷ area ∷ []
-bodyParts Blockwise blocks table area four = area ∷ (entriesOf blocks table ++ (four ∷ []))
+abbrev pub bodyParts : Codec → (table : List Block) (area four : List ℕ) → List (List ℕ)
+bodyParts Bitpacked table area four = area ∷ []
+bodyParts (Linear l w) table area four = spell (l .slope) ∷ spell (l .intercept) ∷ (w ∷ []) ∷ area ∷ []
+bodyParts Blockwise table area four = area ∷ (entriesOf table ++ (four ∷ []))
 
 -- all parts of an opened column in their order, each number in its shortest spelling
 abbrev pub partBytes : (s : List ℕ) → Loaded → List (List ℕ)
@@ -111,4 +112,4 @@ partBytes s o =
     let col = o .column in
     (codeOf (col .codec) ∷ [])
     ∷ spell (col .minimum) ∷ spell (col .gcd) ∷ spell (col .count) ∷ spell (col .rows)
-    ∷ bodyParts (col .codec) (blockCount (col .rows)) (o .table) (take (col .size) (drop (col .start) s)) (drop (length s - 4) s)
+    ∷ bodyParts (col .codec) (o .table) (take (col .size) (drop (col .start) s)) (drop (length s - 4) s)

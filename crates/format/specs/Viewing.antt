@@ -5,7 +5,7 @@ use mathlib.Core.List.{List, [], _∷_}
 use lib.Dec.{leb}
 use lib.ListN.{length, drop}
 use Rattle.format.specs.declared.Head.{Head}
-use Rattle.format.specs.Outcome.{Outcome, Outcome.value, Outcome.refusal, _>>=_, _>>_, demand}
+use Rattle.format.specs.Outcome.{Outcome, Outcome.refusal, _>>=_, _>>_, demand}
 use Rattle.format.specs.Packing.{bytesNum}
 use Rattle.format.specs.Stats.{readHead}
 use Rattle.format.specs.Opening.{Loaded, openBitpacked, openLinear}

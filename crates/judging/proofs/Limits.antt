@@ -1,4 +1,4 @@
--- A check within a program's limits, from the verdict with a table of 2048 blocks.
+-- A check within a program's limits, from the verdict with room for 2048 blocks.
 --     as-listed           under sheet 1 a program opens what it lists
 --     over-bytes          more than 65,536 bytes: 16, whatever they are
 --     within-limits       else the limited verdict, for a list that is not longer than the limit on rows

@@ -30,7 +30,7 @@ verdictLine (failed reason) = reasonLine reason
 
 -- ---- a check in a program
 
--- opening in a program under a sheet: 16 for too many bytes before all else, and for too many rows; its table has room for 2048 blocks
+-- opening in a program under a sheet: 16 for too many bytes before all else, and for too many rows; there is room for 2048 blocks
 unfoldable pub openedHereUnder : (sheet : ℕ) (s : List ℕ) → Outcome Loaded
 openedHereUnder sheet s = demand (leb (length s) 65536) 16 [] >> tooMany (openedUnder sheet s 2048)
 
@@ -50,7 +50,7 @@ pub record JudgedAs (text s file : List ℕ) (n : ℕ) (before after old new : L
 
 -- ---- on the way
 
--- a reason found with a table of 2048 blocks: a program's limit on rows comes in place of 11, and of the counts of a column with more rows
+-- a reason found with room for 2048 blocks: a program's limit on rows comes in place of 11, and of the counts of a column with more rows
 abbrev pub limitedReason : Reason → Verdict
 limitedReason (unopened number also) = pick (eqb number 11) (failed (unopened 16 [])) (failed (unopened number also))
 limitedReason (counts column list) = or (leb column 1048576) (unopened 16 []) (failed (counts column list))

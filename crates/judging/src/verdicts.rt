@@ -6,14 +6,17 @@ ghost use Rattle.format.specs.Checking.{checked};
 ghost use Rattle.format.specs.Refusals.{checkedMeaning};
 ghost use Rattle.judging.specs.Verdicts.{openedHereUnder, limited};
 use format::Checked;
+use format::Kind;
 use format::Refusal;
 
-// The most bytes and rows of a column.
+// The most bytes and rows of a column, and the blocks of so many rows.
 const BYTES_MAX: usize = 65536;
 
 const ROWS_MAX: u32 = 1048576;
 
-// A verdict within the limit on rows: a column of more is refused 16, be it that the table has no room for its blocks or that no list is as long.
+const BLOCKS_MAX: usize = 2048;
+
+// A verdict within the limit on rows: a column of more is refused 16, be it that it has more blocks or that no list is as long.
 fn within_rows(checked: Checked) -> Checked
     ensures { λ r. ⌜ checkedMeaning r ≡ limited (checkedMeaning checked) ⌝ }
 {
@@ -37,7 +40,7 @@ fn within_rows(checked: Checked) -> Checked
     checked
 }
 
-// Internal: asks for so many values in the list, and for no more than the limit on rows. Checks a column against them. The block table is this function's own.
+// Internal: asks for so many values in the list, and for no more than the limit on rows. Checks a column against them.
 pub(crate) fn check_front(sheet: u32, bytes: &[u8], values: &[u64], n: usize) -> Checked
     requires { ⌜ (n ≤ length (now values)) × (n ≤ 1048576) ⌝ }
     ensures { λ r. ⌜ checkedMeaning r ≡ checked (openedHereUnder sheet (now (bytes .entry))) (now (bytes .entry)) (take n (now (values .entry))) ⌝ }
@@ -45,7 +48,7 @@ pub(crate) fn check_front(sheet: u32, bytes: &[u8], values: &[u64], n: usize) ->
     if BYTES_MAX < bytes.len() {
         return Checked::Unopened(Refusal::OverLimit);
     }
-    let mut table = [0u64; 8192];
-    let checked = checking::check(sheet, bytes, &values[..n], &mut table);
+    let opened = u64_based::open_plain_under(sheet, bytes, BLOCKS_MAX);
+    let checked = checking::verdict_on(Kind::U64, opened, bytes, &values[..n]);
     within_rows(checked)
 }

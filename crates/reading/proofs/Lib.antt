@@ -3,11 +3,3 @@
 -- a row
 pub mod Fitting
 pub mod Moving
--- decoding
-pub mod Chunks
-pub mod Stretches
--- looking rows up
-pub mod Scans
-pub mod Turns
--- lookups and runs under way
-pub mod Walking

@@ -56,13 +56,13 @@ module _ (col : Column) (few : col .rows < 2 ^ 32) (r : ℕ) where
       go false e = leaves-unfit col s e blocks b (columnRow col r % 2 ^ 32) ∙ sym (leaves-unfit col s e blocks b (columnRow col r))
 
   -- the block of that row serves
-  pub any-block : (t s : List ℕ) → rowIn col (length t / 4) (blockAt t (columnRow col r % 2 ^ 32 / 512)) s r ≡ rowAt col t s r
+  pub any-block : (t : List Block) (s : List ℕ) → rowIn col (length t) (blockAt t (columnRow col r % 2 ^ 32 / 512)) s r ≡ rowAt col t s r
   unfolding rowIn
   any-block t s = ⊎-elim (λ (h : r < col .window .rows). go h (windowFits col) refl) (λ (h : col .window .rows ≤ r). rw (le-ltb r (col .window .rows) h)) (below-or r (col .window .rows))
     where
-      go : r < col .window .rows → (u : Bool) → windowFits col ≡ u → rowIn col (length t / 4) (blockAt t (columnRow col r % 2 ^ 32 / 512)) s r ≡ rowAt col t s r
-      go h true e = ap (λ (q : ℕ). rowIn col (length t / 4) (blockAt t (q / 512)) s r) (not-moved h (leb-true (col .window .first + col .window .rows) (col .rows) e))
-      go h false e = unfit-anyway col s e (length t / 4) _ _ r
+      go : r < col .window .rows → (u : Bool) → windowFits col ≡ u → rowIn col (length t) (blockAt t (columnRow col r % 2 ^ 32 / 512)) s r ≡ rowAt col t s r
+      go h true e = ap (λ (q : ℕ). rowIn col (length t) (blockAt t (q / 512)) s r) (not-moved h (leb-true (col .window .first + col .window .rows) (col .rows) e))
+      go h false e = unfit-anyway col s e (length t) _ _ r
 
 -- a chunk is as long from that row on
 pub chunk-moved : (q at left : ℕ) → at ≡ q % 2 ^ 32 → chunkSize at left ≡ chunkSize q left

@@ -1,37 +1,87 @@
--- The contracts determine what the calls answer and what every lent record holds afterwards: two results that they allow coincide.
---     block-determined, open-determined, open-under-determined
--- Of `row`, `lookup`, `run`, `chunk` and `replay` those laws of u64_based and replaying say it, at the numbers of the records.
+-- The contracts determine what the calls answer and what every lent entry holds afterwards: two results that they allow coincide.
+--     block-determined, open-determined, open-under-determined, row-determined, lookup-determined, run-determined, chunk-determined, replay-determined
 -- Assumes nothing.
-use Prim.Native.Nat.{ℕ}
-use mathlib.Core.Path.{_≡_, sym, _∙_}
+use Prim.Native.Nat.{ℕ, _-_}
+use mathlib.Core.Path.{_≡_, sym, ap, _∙_}
 use mathlib.Core.List.{List}
 use lib.ListN.{length}
 use Rattle.format.specs.declared.Block.{Block}
+use Rattle.format.specs.declared.Column.{Column}
+use Rattle.format.specs.declared.Found.{Found}
 use Rattle.format.specs.declared.Opened.{Opened}
+use Rattle.format.specs.declared.Replayed.{Replayed}
+use Rattle.format.specs.declared.RowRead.{RowRead}
+use Rattle.format.specs.declared.RunRead.{RunRead}
+use Rattle.format.specs.Lookup.{lookedUp, within}
 use Rattle.format.specs.Opening.{Loaded, opened}
 use Rattle.format.specs.Outcome.{Outcome}
-use Rattle.format.specs.Reading.{blockAt}
+use Rattle.format.specs.Reading.{columnRow, blockAt, rowAt}
+use Rattle.format.specs.Refusals.{rowMeaning, replayedMeaning}
+use Rattle.format.specs.Replaying.{replayed}
+use Rattle.format.specs.Runs.{decoded}
 use Rattle.format.specs.Sheets.{openedUnder}
-use Rattle.format.specs.Calls.{OpenedAs}
-use Rattle.format.proofs.Answers.{opened-injective}
-use Rattle.records.specs.Records.{numbersOf}
-use Rattle.records.proofs.Tables.{same-records}
+use Rattle.format.specs.Calls.{FoundAs, RunAs, OpenedAs}
+use Rattle.format.proofs.Answers.{numbered-injective, opened-injective, row-injective, found-injective, run-injective, replayed-injective}
+use Rattle.format.proofs.Outcomes.{not-value}
+use Rattle.chunks.specs.declared.taking.Stretch.{Stretch}
+use Rattle.chunks.specs.declared.taking.Stretch.the-variants.{Whole, Stopped}
+use Rattle.reading.specs.Chunks.{chunkSize}
+use Rattle.chunks.specs.Stretch.{counted, ended, StretchAs}
 
 -- two answers of `block_at`
-pub block-determined : (t : List Block) (k : ℕ) (a b : Block) → a ≡ blockAt (numbersOf t) k → b ≡ blockAt (numbersOf t) k → a ≡ b
+pub block-determined : (t : List Block) (k : ℕ) (a b : Block) → a ≡ blockAt t k → b ≡ blockAt t k → a ≡ b
 block-determined t k a b p q = p ∙ sym q
 
 -- two answers of an opening, and what the lent table holds afterwards
-determined : (o : Outcome Loaded) (t : List Block) (a b : Opened) (after after′ : List Block)
-    → OpenedAs o a (numbersOf t) (numbersOf after) → OpenedAs o b (numbersOf t) (numbersOf after′) → (a ≡ b) × (after ≡ after′)
-determined o t a b after after′ p q =
-    (opened-injective a b (p .answer ∙ sym (q .answer)), same-records after after′ (p .table ∙ sym (q .table)))
+determined : (o : Outcome Loaded) (t : List Block) (a b : Opened) (after after′ : List Block) → OpenedAs o a t after → OpenedAs o b t after′ → (a ≡ b) × (after ≡ after′)
+determined o t a b after after′ p q = (opened-injective a b (p .answer ∙ sym (q .answer)), p .table ∙ sym (q .table))
 
 pub open-determined : (s : List ℕ) (t : List Block) (a b : Opened) (after after′ : List Block)
-    → OpenedAs (opened s (length t)) a (numbersOf t) (numbersOf after) → OpenedAs (opened s (length t)) b (numbersOf t) (numbersOf after′) → (a ≡ b) × (after ≡ after′)
+    → OpenedAs (opened s (length t)) a t after → OpenedAs (opened s (length t)) b t after′ → (a ≡ b) × (after ≡ after′)
 open-determined s t = determined (opened s (length t)) t
 
 pub open-under-determined : (sheet : ℕ) (s : List ℕ) (t : List Block) (a b : Opened) (after after′ : List Block)
-    → OpenedAs (openedUnder sheet s (length t)) a (numbersOf t) (numbersOf after) → OpenedAs (openedUnder sheet s (length t)) b (numbersOf t) (numbersOf after′)
-    → (a ≡ b) × (after ≡ after′)
+    → OpenedAs (openedUnder sheet s (length t)) a t after → OpenedAs (openedUnder sheet s (length t)) b t after′ → (a ≡ b) × (after ≡ after′)
 open-under-determined sheet s t = determined (openedUnder sheet s (length t)) t
+
+-- two answers of `row`
+pub row-determined : (column : Column) (table : List Block) (bytes : List ℕ) (row : ℕ) (a b : RowRead)
+    → rowMeaning a ≡ rowAt column table bytes row → rowMeaning b ≡ rowAt column table bytes row → a ≡ b
+row-determined column table bytes row a b p q = row-injective a b (p ∙ sym q)
+
+-- two answers of `lookup`, and what the lent list holds afterwards
+pub lookup-determined : (column : Column) (table : List Block) (bytes : List ℕ) (low high first end : ℕ) (found : List ℕ) (a b : Found) (after after′ : List ℕ)
+    → FoundAs (lookedUp (rowAt column table bytes) (column .window .rows) (within low high) first end (length found)) a found after
+    → FoundAs (lookedUp (rowAt column table bytes) (column .window .rows) (within low high) first end (length found)) b found after′
+    → (a ≡ b) × (after ≡ after′)
+lookup-determined column table bytes low high first end found a b after after′ p q =
+    (found-injective a b (p .answer ∙ sym (q .answer)), p .list ∙ sym (q .list))
+
+-- two answers of `run`, and what the lent list holds afterwards
+pub run-determined : (column : Column) (table : List Block) (bytes : List ℕ) (first : ℕ) (out : List ℕ) (a b : RunRead) (after after′ : List ℕ)
+    → RunAs (decoded (rowAt column table bytes) (column .window .rows) first (length out)) a out after
+    → RunAs (decoded (rowAt column table bytes) (column .window .rows) first (length out)) b out after′
+    → (a ≡ b) × (after ≡ after′)
+run-determined column table bytes first out a b after after′ p q =
+    (run-injective a b (p .answer ∙ sym (q .answer)), p .list ∙ sym (q .list))
+
+-- two answers of `chunk`, and what the lent list holds afterwards
+stretch-same : (a b : Stretch) → counted a ≡ counted b → ended a ≡ ended b → a ≡ b
+stretch-same (Whole n) (Whole m) many end = ap Whole many
+stretch-same (Whole n) (Stopped m y) many end = absurd (not-value (sym end))
+stretch-same (Stopped n x) (Whole m) many end = absurd (not-value end)
+stretch-same (Stopped n x) (Stopped m y) many end =
+    let why : x ≡ y = numbered-injective x y end in
+    λ i. Stopped (many i) (why i)
+
+pub chunk-determined : (column : Column) (table : List Block) (bytes : List ℕ) (first : ℕ) (out : List ℕ) (a b : Stretch) (after after′ : List ℕ)
+    → StretchAs (rowAt column table bytes) first (chunkSize (columnRow column first) (column .window .rows - first)) a out after
+    → StretchAs (rowAt column table bytes) first (chunkSize (columnRow column first) (column .window .rows - first)) b out after′
+    → (a ≡ b) × (after ≡ after′)
+chunk-determined column table bytes first out a b after after′ p q =
+    (stretch-same a b (p .count ∙ sym (q .count)) (p .end ∙ sym (q .end)), p .list ∙ sym (q .list))
+
+-- two answers of `replay`
+pub replay-determined : (column : Column) (table : List Block) (bytes recording : List ℕ) (a b : Replayed)
+    → replayedMeaning a ≡ replayed (rowAt column table bytes) (column .window .rows) recording → replayedMeaning b ≡ replayed (rowAt column table bytes) (column .window .rows) recording → a ≡ b
+replay-determined column table bytes recording a b p q = replayed-injective a b (p ∙ sym q)

@@ -10,4 +10,6 @@ pub mod Filling
 pub mod Opening
 -- what the contracts come to
 pub mod Determined
-pub mod Same
+pub mod Calls
+pub mod TypedCalls
+pub mod FourNumbers

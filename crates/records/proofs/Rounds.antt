@@ -11,8 +11,8 @@ use lib.WfN.{Nat·lt-wfRel}
 use lib.ListN.{length}
 use Rattle.format.specs.declared.Window.{Window}
 use Rattle.format.specs.Outcome.{Outcome}
-use Rattle.reading.specs.declared.walks.Walk.{Walk}
-use Rattle.reading.specs.Walks.{Kept, left, Walking}
+use Rattle.chunks.specs.declared.walks.Walk.{Walk}
+use Rattle.chunks.specs.Walks.{Kept, left, Walking}
 use Rattle.walking.proofs.Data.{Fits}
 use Rattle.records.proofs.Types as Ty
 

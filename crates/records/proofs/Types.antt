@@ -37,14 +37,14 @@ use Rattle.blockwise_linear.proofs.reader.Cursor as K
 use Rattle.blockwise_linear.proofs.reader.Cursor.Laws as K′
 use Rattle.blockwise_linear.proofs.reader.Step as S
 use Rattle.blockwise_linear.proofs.reader.Step.Laws as S′
-use Rattle.reading.proofs.taking.Stretch as T
-use Rattle.reading.proofs.taking.Stretch.Laws as T′
+use Rattle.chunks.proofs.taking.Stretch as T
+use Rattle.chunks.proofs.taking.Stretch.Laws as T′
 use Rattle.replaying.proofs.walking.Walk as Y
 use Rattle.replaying.proofs.walking.Walk.Laws as Y′
 use Rattle.format.proofs.Replayed as Z
 use Rattle.format.proofs.Replayed.Laws as Z′
-use Rattle.reading.proofs.walks.Walk as W
-use Rattle.reading.proofs.walks.Walk.Laws as W′
+use Rattle.chunks.proofs.walks.Walk as W
+use Rattle.chunks.proofs.walks.Walk.Laws as W′
 
 abbrev pub block : Data
 block = struct B.the-type B′.the-laws B′.the-plain

@@ -1,23 +1,23 @@
-// The calls over a block table that is a lent list of block records. Each says of the records what the calls of u64_based say of
-// four numbers a block.
+// The calls over a block table, a lent list of block records. No argument makes a call fail but by a numbered refusal, and each contract
+// says what a call answers and what every lent entry holds afterwards.
 //
 // Only `fill` writes a table and only `block_at` reads one; the others pass it on.
 ghost use mathlib.Core.Path.{_≡_};
-ghost use Prim.Native.Nat.{_-_, _*_, _/_, _%_, _^_};
+ghost use Prim.Native.Nat.{_-_, _/_, _%_, _^_};
 ghost use lib.ListN.{length};
 ghost use Rattle.format.specs.Outcome.{stored};
 ghost use Rattle.format.specs.Refusals.{rowMeaning, replayedMeaning};
 ghost use Rattle.format.specs.Opening.{opened};
 ghost use Rattle.format.specs.Sheets.{openedUnder};
 ghost use Rattle.format.specs.Lookup.{lookedUp, within};
-ghost use Rattle.format.specs.Reading.{columnRow, blockAt, rowAt};
+ghost use Rattle.format.specs.Reading.{noBlock, columnRow, blockAt, rowAt};
 ghost use Rattle.format.specs.Runs.{decoded};
 ghost use Rattle.format.specs.Replaying.{replayed};
 ghost use Rattle.format.specs.Calls.{OpenedAs, FoundAs, RunAs};
 ghost use Rattle.reading.specs.Chunks.{chunkSize};
-ghost use Rattle.reading.specs.Stretch.{StretchAs};
-ghost use Rattle.blockwise_linear.specs.Reader.{firstCursor, blocksFrom, numbersIn, Fillable};
-ghost use Rattle.records.specs.Records.{noBlock, numbersOf};
+ghost use Rattle.chunks.specs.Stretch.{StretchAs};
+ghost use Rattle.blockwise_linear.specs.Reader.{firstCursor, blocksFrom, listed, Fillable};
+use chunks::taking::Stretch;
 use format::Block;
 use format::Column;
 use format::Found;
@@ -27,7 +27,6 @@ use format::Replayed;
 use format::RowRead;
 use format::RunRead;
 use format::WindowRow;
-use reading::taking::Stretch;
 
 // The block of a table that has none.
 fn no_block() -> Block
@@ -46,7 +45,7 @@ fn no_block() -> Block
 
 // Block `k` of a table; a block past the table's end is all zeros.
 pub fn block_at(table: &[Block], k: usize) -> Block
-    ensures { λ r. ⌜ r ≡ blockAt (numbersOf (now (table .entry))) k ⌝ }
+    ensures { λ r. ⌜ r ≡ blockAt (now (table .entry)) k ⌝ }
 {
     if k < table.len() {
         return table[k];
@@ -64,7 +63,7 @@ fn block_of(column: Column, row: WindowRow) -> usize
 
 // The value of a row of an opened column's window, with its table and its bytes.
 pub fn row(column: Column, table: &[Block], bytes: &[u8], row: WindowRow) -> RowRead
-    ensures { λ r. ⌜ rowMeaning r ≡ rowAt column (numbersOf (now (table .entry))) (now (bytes .entry)) (row .0) ⌝ }
+    ensures { λ r. ⌜ rowMeaning r ≡ rowAt column (now (table .entry)) (now (bytes .entry)) (row .0) ⌝ }
 {
     let blocks = table.len();
     let k = block_of(column, row);
@@ -83,33 +82,33 @@ pub fn lookup(
     end: u32,
     found: &mut [u32],
 ) -> Found
-    ensures { λ r. ⌜ FoundAs (lookedUp (rowAt column (numbersOf (now (table .entry))) (now (bytes .entry))) (column .window .rows) (within low high) first end (length (now (found .entry)))) r (now (found .entry)) (now (found .exit)) ⌝ }
+    ensures { λ r. ⌜ FoundAs (lookedUp (rowAt column (now (table .entry)) (now (bytes .entry))) (column .window .rows) (within low high) first end (length (now (found .entry)))) r (now (found .entry)) (now (found .exit)) ⌝ }
 {
     let blocks = table.len();
     let window = column.window;
-    let mut w = reading::finding::begin(window, first, end);
+    let mut w = chunks::finding::begin(window, first, end);
     while w.going {
-        let k = reading::walks::block_of(w);
+        let k = chunks::walks::block_of(w);
         let block = block_at(table, k);
-        w = reading::finding::step(column, blocks, block, bytes, low, high, w, found);
+        w = chunks::finding::step(column, blocks, block, bytes, low, high, w, found);
     }
-    reading::finding::answer(w)
+    chunks::finding::answer(w)
 }
 
 // The values of the window's rows from `first` on, as many as the lent list has entries, into that list.
 pub fn run(column: Column, table: &[Block], bytes: &[u8], first: u32, out: &mut [u64]) -> RunRead
-    ensures { λ r. ⌜ RunAs (decoded (rowAt column (numbersOf (now (table .entry))) (now (bytes .entry))) (column .window .rows) first (length (now (out .entry)))) r (now (out .entry)) (now (out .exit)) ⌝ }
+    ensures { λ r. ⌜ RunAs (decoded (rowAt column (now (table .entry)) (now (bytes .entry))) (column .window .rows) first (length (now (out .entry)))) r (now (out .entry)) (now (out .exit)) ⌝ }
 {
     let blocks = table.len();
     let rows = out.len();
     let window = column.window;
-    let mut w = reading::runs::begin(window, first, rows);
+    let mut w = chunks::runs::begin(window, first, rows);
     while w.going {
-        let k = reading::walks::block_of(w);
+        let k = chunks::walks::block_of(w);
         let block = block_at(table, k);
-        w = reading::runs::step(column, blocks, block, bytes, w, out);
+        w = chunks::runs::step(column, blocks, block, bytes, w, out);
     }
-    reading::runs::answer(w)
+    chunks::runs::answer(w)
 }
 
 // The block of a chunk that begins with a row.
@@ -128,17 +127,17 @@ pub fn chunk(
     first: u32,
     out: &mut [u64; 512],
 ) -> Stretch
-    ensures { λ r. ⌜ StretchAs (rowAt column (numbersOf (now (table .entry))) (now (bytes .entry))) first (chunkSize (columnRow column first) (column .window .rows - first)) r (now (out .entry)) (now (out .exit)) ⌝ }
+    ensures { λ r. ⌜ StretchAs (rowAt column (now (table .entry)) (now (bytes .entry))) first (chunkSize (columnRow column first) (column .window .rows - first)) r (now (out .entry)) (now (out .exit)) ⌝ }
 {
     let blocks = table.len();
     let k = block_from(column, first);
     let block = block_at(table, k);
-    reading::taking::take(column, blocks, block, bytes, first, out)
+    chunks::taking::take(column, blocks, block, bytes, first, out)
 }
 
 // Runs the recorded lookups one after another, up to the first whose rows are not the recorded ones.
 pub fn replay(column: Column, table: &[Block], bytes: &[u8], recording: &[u8]) -> Replayed
-    ensures { λ r. ⌜ replayedMeaning r ≡ replayed (rowAt column (numbersOf (now (table .entry))) (now (bytes .entry))) (column .window .rows) (now (recording .entry)) ⌝ }
+    ensures { λ r. ⌜ replayedMeaning r ≡ replayed (rowAt column (now (table .entry)) (now (bytes .entry))) (column .window .rows) (now (recording .entry)) ⌝ }
 {
     let blocks = table.len();
     let rows = column.window.rows;
@@ -153,8 +152,8 @@ pub fn replay(column: Column, table: &[Block], bytes: &[u8], recording: &[u8]) -
 
 // Internal: asks for blocks that were checked, and for room. The blocks of so many rows are put into the table, one after another.
 fn fill(bytes: &[u8], rows: u32, table: &mut [Block])
-    requires { ⌜ Fillable (now bytes) rows (4 * length (now table)) ⌝ }
-    ensures { λ _. ⌜ numbersOf (now (table .exit)) ≡ stored (numbersIn (blocksFrom (now (bytes .entry)) (firstCursor (now (bytes .entry)) rows))) (numbersOf (now (table .entry))) ⌝ }
+    requires { ⌜ Fillable (now bytes) rows (length (now table)) ⌝ }
+    ensures { λ _. ⌜ now (table .exit) ≡ stored (listed (blocksFrom (now (bytes .entry)) (firstCursor (now (bytes .entry)) rows))) (now (table .entry)) ⌝ }
 {
     let mut c = blockwise_linear::reader::first(bytes, rows);
     let mut k: usize = 0;
@@ -169,7 +168,7 @@ fn fill(bytes: &[u8], rows: u32, table: &mut [Block])
 // Opens a column under an acceptance sheet, says how its numbers are spelled, and puts the blocks of a Blockwise one into the lent table, a
 // record a block. A refusal leaves the table as it was; so does a column without blocks.
 pub fn open_under(sheet: u32, bytes: &[u8], table: &mut [Block]) -> Opened
-    ensures { λ r. ⌜ OpenedAs (openedUnder sheet (now (bytes .entry)) (length (now (table .entry)))) r (numbersOf (now (table .entry))) (numbersOf (now (table .exit))) ⌝ }
+    ensures { λ r. ⌜ OpenedAs (openedUnder sheet (now (bytes .entry)) (length (now (table .entry)))) r (now (table .entry)) (now (table .exit)) ⌝ }
 {
     let room = table.len();
     let answer = u64_based::open_plain_under(sheet, bytes, room);
@@ -180,7 +179,7 @@ pub fn open_under(sheet: u32, bytes: &[u8], table: &mut [Block]) -> Opened
 
 // Opens a column under sheet 1.
 pub fn open(bytes: &[u8], table: &mut [Block]) -> Opened
-    ensures { λ r. ⌜ OpenedAs (opened (now (bytes .entry)) (length (now (table .entry)))) r (numbersOf (now (table .entry))) (numbersOf (now (table .exit))) ⌝ }
+    ensures { λ r. ⌜ OpenedAs (opened (now (bytes .entry)) (length (now (table .entry)))) r (now (table .entry)) (now (table .exit)) ⌝ }
 {
     open_under(1, bytes, table)
 }

@@ -8,9 +8,8 @@ use libc::STDOUT_FILENO;
 // Writes a title, and the report of a replay.
 fn show(title: &[u8], bytes: &[u8], recording: &[u8]) {
     io::write_all(STDOUT_FILENO, title);
-    let mut table = [0u64; 8192];
     let mut line = [0u8; 128];
-    let n = reporting::report(bytes, &mut table, recording, &mut line);
+    let n = reporting::report(bytes, recording, &mut line);
     io::write_all(STDOUT_FILENO, &line[..n]);
 }
 

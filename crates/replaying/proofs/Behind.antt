@@ -12,8 +12,8 @@ use Rattle.format.specs.Lookup.{passes, allRead, rowsPassing}
 use Rattle.format.specs.Outcome.{Outcome, Outcome.value, Outcome.refusal, _>>=_, pick}
 use Rattle.format.specs.Runs.{readRun}
 use Rattle.format.proofs.Outcomes.{not-value, by-step}
-use Rattle.reading.specs.Walks.{rowsIn}
-use Rattle.reading.proofs.Turns.{all-run, all-refused, rows-run}
+use Rattle.chunks.specs.Walks.{rowsIn}
+use Rattle.chunks.proofs.Turns.{all-run, all-refused, rows-run}
 
 -- the rows up to an end, cut in two
 cut : (r end k : ℕ) → r + k ≤ end → end - r ≡ k + (end - (r + k))

@@ -7,4 +7,3 @@ pub mod Meets
 pub mod Behind
 -- a replay under way
 pub mod Walks
-pub mod Determined

@@ -17,7 +17,7 @@ use Rattle.format.specs.declared.Recording.{Recording}
 use Rattle.format.specs.declared.Recorded.{Recorded}
 use Rattle.format.specs.Outcome.{pick}
 use Rattle.format.specs.Replaying.{listedAt, listedFrom, sameRows}
-use Rattle.reading.specs.Walks.{rowsIn}
+use Rattle.chunks.specs.Walks.{rowsIn}
 use Rattle.replaying.specs.Walking.{toCome}
 
 module _ (h : Recording) (s : List ℕ) (r : Recorded) where

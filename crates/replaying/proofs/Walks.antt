@@ -27,7 +27,7 @@ use Rattle.format.specs.Outcome.{Outcome, Outcome.value, Outcome.refusal, _>>_,
 use Rattle.format.specs.Refusals.{numbered, replayedMeaning}
 use Rattle.format.specs.Replaying.{headerOf, recordAt, sameRows, areRows, foundAre, agrees, firstDiffering, reported, isRecording, replayed}
 use Rattle.format.specs.Runs.{readRun}
-use Rattle.reading.specs.Walks.{rowsIn}
+use Rattle.chunks.specs.Walks.{rowsIn}
 use Rattle.replaying.proofs.Behind.{all-behind, all-stops, all-none, rows-behind, rows-none}
 use Rattle.replaying.specs.declared.walking.Walk.{Walk}
 use Rattle.replaying.specs.Walking.{toCome, Onward, OnHand, Replaying, left}

@@ -1,4 +1,4 @@
-// A replay under way. The table is walked by `replay` itself; here a chunk comes with its block. Found rows are compared with the recorded ones as they come, so no list is lent.
+// A replay under way: a chunk comes with its block, whoever has the blocks. Found rows are compared with the recorded ones as they come, so no list is lent.
 ghost use mathlib.Core.Path.{_≡_};
 ghost use mathlib.Core.Bool.{Bool, true, false};
 ghost use mathlib.Core.List.{List, _∷_, _++_};
@@ -10,12 +10,14 @@ ghost use Rattle.format.specs.Reading.{columnRow, blockAt, rowAt};
 ghost use Rattle.format.specs.Replaying.{sameRows};
 ghost use Rattle.format.specs.Runs.{readRun};
 ghost use Rattle.reading.specs.Chunks.{chunkSize};
-ghost use Rattle.reading.specs.Walks.{rowsIn};
+ghost use Rattle.chunks.specs.Walks.{rowsIn};
 ghost use Rattle.replaying.specs.Walking.{toCome, Onward, Going, OnHand, Replaying, left};
 use crate::parsing::header_of;
 use crate::parsing::is_recording;
 use crate::parsing::listed_at;
 use crate::parsing::record_at;
+use chunks::finding::cut;
+use chunks::finding::within;
 use format::Block;
 use format::Column;
 use format::Recorded;
@@ -23,8 +25,6 @@ use format::Recording;
 use format::Refusal;
 use format::Replayed;
 use format::WindowRow;
-use reading::finding::cut;
-use reading::finding::within;
 use reading::reader::Decoded;
 
 // Record k is at hand: its rows before `at` are done, and the first n recorded ones were found among them. While the replay is going on there are rows left; then its answer stands.
@@ -218,7 +218,7 @@ fn step_through(
     values: &mut [u64],
 ) -> Walk
     requires { ⌜ Going (column .window .rows) w × (length (now values) ≡ chunkSize (columnRow column (w .at)) (w .end - w .at)) ⌝ }
-    ensures { λ r. ⌜ ((table : List ℕ) → blocks ≡ length table / 4 → block ≡ blockAt table (columnRow column (w .at) % 2 ^ 32 / 512) → Replaying (rowAt column table (now (bytes .entry))) (column .window .rows) (now (recording .entry)) w → Replaying (rowAt column table (now (bytes .entry))) (column .window .rows) (now (recording .entry)) r) ⌝ }
+    ensures { λ r. ⌜ ((table : List Block) → blocks ≡ length table → block ≡ blockAt table (columnRow column (w .at) % 2 ^ 32 / 512) → Replaying (rowAt column table (now (bytes .entry))) (column .window .rows) (now (recording .entry)) w → Replaying (rowAt column table (now (bytes .entry))) (column .window .rows) (now (recording .entry)) r) ⌝ }
     ensures { λ r. ⌜ left r < left w ⌝ }
 {
     let decoded = reading::reader::decode(column, blocks, block, bytes, WindowRow(w.at), values);
@@ -248,12 +248,12 @@ pub fn step(
     w: Walk,
 ) -> Walk
     requires { ⌜ Going (column .window .rows) w ⌝ }
-    ensures { λ r. ⌜ ((table : List ℕ) → blocks ≡ length table / 4 → block ≡ blockAt table (columnRow column (w .at) % 2 ^ 32 / 512) → Replaying (rowAt column table (now (bytes .entry))) (column .window .rows) (now (recording .entry)) w → Replaying (rowAt column table (now (bytes .entry))) (column .window .rows) (now (recording .entry)) r) ⌝ }
+    ensures { λ r. ⌜ ((table : List Block) → blocks ≡ length table → block ≡ blockAt table (columnRow column (w .at) % 2 ^ 32 / 512) → Replaying (rowAt column table (now (bytes .entry))) (column .window .rows) (now (recording .entry)) w → Replaying (rowAt column table (now (bytes .entry))) (column .window .rows) (now (recording .entry)) r) ⌝ }
     ensures { λ r. ⌜ left r < left w ⌝ }
 {
     let mut buffer = [0u64; 512];
     let at = reading::reader::column_row(column.window.first, WindowRow(w.at));
-    let size = reading::walks::chunk_size(at, w.end - w.at);
+    let size = chunks::walks::chunk_size(at, w.end - w.at);
     step_through(
         column,
         blocks,

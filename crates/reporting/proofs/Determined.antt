@@ -3,9 +3,9 @@
 use Prim.Native.Nat.{ℕ}
 use mathlib.Core.Path.{_≡_, sym, _∙_}
 use mathlib.Core.List.{List}
-use Rattle.reporting.specs.Report.{ReportedAs}
+use Rattle.format.specs.Outcome.{Wrote}
+use Rattle.reporting.specs.Report.{report}
 
-pub report-determined : (s recording table line : List ℕ) (n m : ℕ) (after after′ new new′ : List ℕ)
-    → ReportedAs s recording n table after line new → ReportedAs s recording m table after′ line new′ → (n ≡ m) × (after ≡ after′) × (new ≡ new′)
-report-determined s recording table line n m after after′ new new′ p q =
-    (p .line .ends ∙ sym (q .line .ends), p .table ∙ sym (q .table), p .line .list ∙ sym (q .line .list))
+pub report-determined : (s recording line : List ℕ) (n m : ℕ) (new new′ : List ℕ)
+    → Wrote line 0 (report s recording) new n → Wrote line 0 (report s recording) new′ m → (n ≡ m) × (new ≡ new′)
+report-determined s recording line n m new new′ p q = (p .ends ∙ sym (q .ends), p .list ∙ sym (q .list))

@@ -1,4 +1,5 @@
--- A replay's line, from what opening found and what was written.
+-- A replay's line, from what opening answered and what was written.
+--     found-column         a column in the answer was opened of the bytes
 --     reported-column      a column that does not open
 --     reported-long        a recording of too many bytes
 --     reported-run         a replay
@@ -6,28 +7,24 @@
 use Prim.Native.Nat.{ℕ, _≤_, _<_}
 use mathlib.Core.Path.{_≡_, refl, sym, ap, _∙_, subst}
 use mathlib.Core.List.{List}
-use native.Mathlib.Omega.{arith}
 use borrow.Author.Tests.{le-leb, lt-leb}
 use lib.ListN.{length}
-use lib.Seq.{length-sets}
 use Rattle.format.specs.declared.Column.{Column}
 use Rattle.format.specs.declared.Opened.{Opened}
 use Rattle.format.specs.declared.Opened.the-variants.{Column as OpenedColumn, Refused}
 use Rattle.format.specs.declared.Refusal.{Refusal}
 use Rattle.format.specs.declared.Replayed.{Replayed}
 use Rattle.format.specs.declared.Spelling.{Spelling}
-use Rattle.format.specs.Calls.{OpenedAs}
-use Rattle.format.specs.Demands.{filledBy, answered}
 use Rattle.format.specs.Listing.{ascii, namedLine, openedHere}
-use Rattle.format.specs.Opening.{Loaded}
+use Rattle.format.specs.Opening.{Loaded, columnIn}
 use Rattle.format.specs.Outcome.{Outcome, Outcome.value, Outcome.refusal, Wrote}
-use Rattle.format.specs.Reading.{rowAt}
 use Rattle.format.specs.Refusals.{openedMeaning, replayedMeaning}
 use Rattle.format.specs.Replaying.{replayed}
-use Rattle.format.proofs.Outcomes.{value-same}
+use Rattle.format.proofs.Outcomes.{not-value, value-same}
+use Rattle.text.specs.Own.{ownRow, Opens}
 use Rattle.text.specs.Refused.{refusedBy}
-use Rattle.text.proofs.Rows.{here-answers}
-use Rattle.reporting.specs.Report.{reportLine, replayedHere, reportOr, report, ReportedAs}
+use Rattle.text.proofs.Rows.{own-reads}
+use Rattle.reporting.specs.Report.{reportLine, replayedHere, reportOr, report}
 
 -- replaying within the limit, and beyond it
 replayed-short : (read : ℕ → Outcome ℕ) (rows : ℕ) (recording : List ℕ) → length recording ≤ 262144 → replayed read rows recording ≡ replayedHere read rows recording
@@ -38,45 +35,40 @@ replayed-long : (read : ℕ → Outcome ℕ) (rows : ℕ) (recording : List ℕ)
 unfolding replayedHere
 replayed-long read rows recording long = rw (lt-leb (length recording) 262144 long) refl
 
-module _ (s recording : List ℕ) {r : Opened} {n : ℕ} {before after old new : List ℕ} (found : OpenedAs (openedHere s) r before after) where
-  -- the line that was written is the one of what opening found
-  by-opening : {line : List ℕ} → ((o : Outcome Loaded) → openedHere s ≡ o → OpenedAs o r before after → line ≡ reportOr o s recording) → Wrote old 0 line new n
-      → ReportedAs s recording n before after old new
-  unfolding report
-  by-opening is wrote =
-      record {
-        table = found .table;
-        line = subst (λ (l : List ℕ). Wrote old 0 l new n) (is (openedHere s) refl found) wrote;
-      }
+-- the line that was written is the one of what opening found
+by-line : (s recording : List ℕ) {line : List ℕ} {n : ℕ} {old new : List ℕ} → line ≡ reportOr (openedHere s) s recording → Wrote old 0 line new n → Wrote old 0 (report s recording) new n
+unfolding report
+by-line s recording {line} {n} {old} {new} is wrote = subst (λ (l : List ℕ). Wrote old 0 l new n) is wrote
 
-  pub reported-column : {x : Refusal} {number : ℕ} → r ≡ Refused x → number ≡ refusedBy (openedMeaning r) → Wrote old 0 (namedLine (ascii "column refused ") number) new n
-      → ReportedAs s recording n before after old new
-  reported-column {x} {number} is by wrote = by-opening go wrote
+pub found-column : (s : List ℕ) {r : Opened} {c : Column} {p : Spelling} → openedMeaning r ≡ columnIn (openedHere s) → r ≡ OpenedColumn c p → Opens s c
+found-column s {r} {c} {p} answer is = go (openedHere s) refl (sym (ap openedMeaning is) ∙ answer)
+  where
+    go : (o : Outcome Loaded) → openedHere s ≡ o → openedMeaning (OpenedColumn c p) ≡ columnIn o → Opens s c
+    go (value l) e f = record { found = l; opened = e; column = sym (ap (λ (x : Column × Spelling). x .0) (value-same f)) }
+    go (refusal number also) e f = absurd (not-value (sym f))
+
+module _ (s recording : List ℕ) {r : Opened} (answer : openedMeaning r ≡ columnIn (openedHere s)) where
+  pub reported-column : {x : Refusal} {number n : ℕ} {old new : List ℕ} → r ≡ Refused x → number ≡ refusedBy (openedMeaning r) → Wrote old 0 (namedLine (ascii "column refused ") number) new n
+      → Wrote old 0 (report s recording) new n
+  reported-column {x} {number} is by wrote = by-line s recording (go (openedHere s) answer) wrote
     where
-      go : (o : Outcome Loaded) → openedHere s ≡ o → OpenedAs o r before after → namedLine (ascii "column refused ") number ≡ reportOr o s recording
-      go (value l) e f = absurd (let z : _≡_ {A = ℕ} 0 1 = cc in omega arith)
-      go (refusal number′ also) e f = ap (namedLine (ascii "column refused ")) (by ∙ ap refusedBy (f .answer))
+      go : (o : Outcome Loaded) → openedMeaning r ≡ columnIn o → namedLine (ascii "column refused ") number ≡ reportOr o s recording
+      go (value l) f = absurd (not-value (sym (ap openedMeaning is) ∙ f))
+      go (refusal number′ also) f = ap (namedLine (ascii "column refused ")) (by ∙ ap refusedBy f)
 
   module _ {c : Column} {p : Spelling} (is : r ≡ OpenedColumn c p) where
-    pub reported-long : 262144 < length recording → Wrote old 0 (namedLine (ascii "recording refused ") 16) new n → ReportedAs s recording n before after old new
-    reported-long long wrote = by-opening go wrote
-      where
-        go : (o : Outcome Loaded) → openedHere s ≡ o → OpenedAs o r before after → namedLine (ascii "recording refused ") 16 ≡ reportOr o s recording
-        go (value l) e f = replayed-long (rowAt (l .column) (l .table) s) (l .column .window .rows) recording long
-        go (refusal number also) e f = absurd (let z : _≡_ {A = ℕ} 0 1 = cc in omega arith)
+    -- the line of the column that was opened
+    opened-line : reportOr (openedHere s) s recording ≡ reportLine (replayedHere (ownRow c s) (c .window .rows) recording)
+    opened-line =
+        let e = found-column s answer is in
+        let o = e .found in
+        ap (λ (x : Outcome Loaded). reportOr x s recording) (e .opened)
+        ∙ ap (λ (read : ℕ → Outcome ℕ). reportLine (replayedHere read (o .column .window .rows) recording)) (sym (own-reads s o (e .opened)))
+        ∙ ap (λ (k : Column). reportLine (replayedHere (ownRow k s) (k .window .rows) recording)) (e .column)
 
-    pub reported-run : (a : Replayed) → 8192 ≤ length after → length recording ≤ 262144 → replayedMeaning a ≡ replayed (rowAt c after s) (c .window .rows) recording
-        → Wrote old 0 (reportLine (replayedMeaning a)) new n → ReportedAs s recording n before after old new
-    reported-run a room short means wrote = by-opening go wrote
-      where
-        go : (o : Outcome Loaded) → openedHere s ≡ o → OpenedAs o r before after → reportLine (replayedMeaning a) ≡ reportOr o s recording
-        go (value l) e f =
-            let same : c ≡ l .column = ap (λ (x : Column × Spelling). x .0) (value-same (sym (ap openedMeaning is) ∙ f .answer)) in
-            let filled : after ≡ filledBy l before = f .table in
-            let enough : 8192 ≤ length before = omega (arith, ap length filled, length-sets before 0 (l .table)) in
-            let own : answered l before s ≡ rowAt (l .column) (l .table) s = (λ i x. here-answers s l e before enough x i) in
-            ap reportLine
-            (means
-            ∙ rw (same, filled) (ap (λ (read : ℕ → Outcome ℕ). replayed read (l .column .window .rows) recording) own)
-            ∙ replayed-short (rowAt (l .column) (l .table) s) (l .column .window .rows) recording short)
-        go (refusal number also) e f = absurd (let z : _≡_ {A = ℕ} 0 1 = cc in omega arith)
+    pub reported-long : {n : ℕ} {old new : List ℕ} → 262144 < length recording → Wrote old 0 (namedLine (ascii "recording refused ") 16) new n → Wrote old 0 (report s recording) new n
+    reported-long long = by-line s recording (replayed-long (ownRow c s) (c .window .rows) recording long ∙ sym opened-line)
+
+    pub reported-run : (a : Replayed) {n : ℕ} {old new : List ℕ} → length recording ≤ 262144 → replayedMeaning a ≡ replayed (ownRow c s) (c .window .rows) recording
+        → Wrote old 0 (reportLine (replayedMeaning a)) new n → Wrote old 0 (report s recording) new n
+    reported-run a short means = by-line s recording (ap reportLine (means ∙ replayed-short (ownRow c s) (c .window .rows) recording short) ∙ sym opened-line)

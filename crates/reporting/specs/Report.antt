@@ -1,14 +1,13 @@
 -- What the program says of a replay: one line.
 -- Assumes nothing.
 use Prim.Native.Nat.{ℕ}
-use mathlib.Core.Path.{_≡_}
 use mathlib.Core.Option.{Option, none, some}
 use mathlib.Core.List.{List, [], _++_}
 use lib.Dec.{leb}
 use lib.ListN.{length}
 use Rattle.format.specs.Listing.{ascii, named, namedLine, openedHere}
-use Rattle.format.specs.Opening.{Loaded, tableIn}
-use Rattle.format.specs.Outcome.{Outcome, Outcome.value, Outcome.refusal, _>>_, demand, stored, Wrote}
+use Rattle.format.specs.Opening.{Loaded}
+use Rattle.format.specs.Outcome.{Outcome, Outcome.value, Outcome.refusal, _>>_, demand}
 use Rattle.format.specs.Reading.{rowAt}
 use Rattle.format.specs.Replaying.{Report, replayed}
 
@@ -34,8 +33,3 @@ reportOr (refusal number also) s recording = namedLine (ascii "column refused ")
 -- what the program writes of a column's bytes and a recording
 unfoldable pub report : (s recording : List ℕ) → List ℕ
 report s recording = reportOr (openedHere s) s recording
-
--- the table before and after, and the line before and after, at whose front so many bytes were written
-pub record ReportedAs (s recording : List ℕ) (n : ℕ) (before after old new : List ℕ) : Type 0 where
-  pub table : after ≡ stored (tableIn (openedHere s)) before
-  pub line : Wrote old 0 (report s recording) new n

@@ -1,9 +1,11 @@
 // A replay as text: one line, of a column and a recording within a program's limits. No argument makes the call fail, and its contract says what every lent
 // entry holds afterwards.
 mod lines;
+mod running;
 
 ghost use Rattle.io.specs.Counts.{Counts};
-ghost use Rattle.reporting.specs.Report.{ReportedAs};
+ghost use Rattle.format.specs.Outcome.{Wrote};
+ghost use Rattle.reporting.specs.Report.{report as told};
 use format::Opened;
 use text::lines::named_line;
 use text::lines::refusal_number;
@@ -13,16 +15,11 @@ const RECORDING_MAX: usize = 262144;
 
 // Opens the column, replays the recording over it, and writes what that reports at the start of the lent line; returns the line's length. A column that
 // does not open decides before the recording.
-pub fn report(
-    bytes: &[u8],
-    table: &mut [u64; 8192],
-    recording: &[u8],
-    line: &mut [u8; 128],
-) -> usize
-    ensures { λ r. ⌜ ReportedAs (now (bytes .entry)) (now (recording .entry)) r (now (table .entry)) (now (table .exit)) (now (line .entry)) (now (line .exit)) ⌝ }
+pub fn report(bytes: &[u8], recording: &[u8], line: &mut [u8; 128]) -> usize
+    ensures { λ r. ⌜ Wrote (now (line .entry)) 0 (told (now (bytes .entry)) (now (recording .entry))) (now (line .exit)) r ⌝ }
     ensures { λ r. ⌜ Counts r (now (line .exit)) ⌝ }
 {
-    let opened = text::opening::open(bytes, table);
+    let opened = text::opening::open_plain(bytes);
     let Opened::Column(column, _) = opened else {
         let number = refusal_number(opened) as u64;
         return named_line(b"column refused ", number, line);
@@ -30,6 +27,6 @@ pub fn report(
     if RECORDING_MAX < recording.len() {
         return named_line(b"recording refused ", 16, line);
     }
-    let replayed = replaying::replay(column, table, bytes, recording);
+    let replayed = running::replay(column, bytes, recording);
     lines::report_line(replayed, line)
 }

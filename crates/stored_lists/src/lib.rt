@@ -2,6 +2,7 @@
 // told the record's place. Bytes 2 and 3 of its first word are the number of the values' kind.
 ghost use mathlib.Core.Path.{_≡_};
 ghost use lib.ListN.{length};
+use format::Block;
 use format::Column;
 use format::Kind;
 use format::Opened;
@@ -26,6 +27,8 @@ use stored::words::count_at;
 use stored::words::take_words;
 use stored::words::word_at;
 use stored::words::words_for;
+use stored_tables::BLOCKS;
+use stored_tables::blocks::marks;
 
 // The longest list.
 const VALUES: usize = 1025;
@@ -108,16 +111,29 @@ fn stats_stored(values: &[u64], file: &[u8], at: usize) -> bool {
 }
 
 // Whether a row of an opened column is what a value is stored as.
-fn row_is(column: Column, table: &[u64], bytes: &[u8], row: usize, kind: Kind, value: u64) -> bool {
+fn row_is(
+    column: Column,
+    table: [Block; BLOCKS],
+    bytes: &[u8],
+    row: usize,
+    kind: Kind,
+    value: u64,
+) -> bool {
     let row = WindowRow((row % 0x1_0000_0000) as u32);
-    match u64_based::row(column, table, bytes, row) {
+    match stored_tables::row(column, table, BLOCKS, bytes, row) {
         RowRead::Value(read) => read == monotonic_mapping::stored_of(kind, value),
         RowRead::Refused(_) => false,
     }
 }
 
 // How many rows of an opened column are the values, up to the first that is not.
-fn rows_back(column: Column, table: &[u64], bytes: &[u8], kind: Kind, values: &[u64]) -> usize {
+fn rows_back(
+    column: Column,
+    table: [Block; BLOCKS],
+    bytes: &[u8],
+    kind: Kind,
+    values: &[u64],
+) -> usize {
     let mut i = 0;
     while i < values.len() {
         if !row_is(column, table, bytes, i, kind, values[i]) {
@@ -130,11 +146,12 @@ fn rows_back(column: Column, table: &[u64], bytes: &[u8], kind: Kind, values: &[
 
 // Opens a column that was written, and reads the values back.
 fn read_back(bytes: &[u8], kind: Kind, values: &[u64]) -> Outcome {
-    let mut table = [0u64; 64];
-    match u64_based::open(bytes, &mut table) {
+    let marks = marks();
+    let table = stored_tables::filled(1, bytes, marks, BLOCKS);
+    match stored_tables::opened(1, bytes, marks, BLOCKS) {
         Opened::Column(column, spelling) => {
             let shortest = of_opening(spelling).also == 0;
-            let back = rows_back(column, &table, bytes, kind, values);
+            let back = rows_back(column, table, bytes, kind, values);
             Outcome {
                 rows: 0,
                 lookups: 0,

@@ -1,4 +1,5 @@
 // The questions to a column: rows, and lookups, runs or narrowings. The upper half of a row, and of a lookup's first row, is the number of a kind, by which values are read.
+use format::Block;
 use format::Column;
 use format::Found;
 use format::Narrowed;
@@ -24,6 +25,7 @@ use stored::words::count_at;
 use stored::words::half_at;
 use stored::words::upper_at;
 use stored::words::word_at;
+use stored_tables::BLOCKS;
 
 // How many questions were answered as stored, and the place behind them.
 struct Walk {
@@ -32,17 +34,25 @@ struct Walk {
 }
 
 // Whether the row at a place is answered as stored.
-fn row_alike(column: Column, table: &[u64], bytes: &[u8], file: &[u8], at: usize) -> bool {
+fn row_alike(
+    column: Column,
+    table: [Block; BLOCKS],
+    room: usize,
+    bytes: &[u8],
+    file: &[u8],
+    at: usize,
+) -> bool {
     let row = WindowRow(half_at(file, at));
     let kind = kind_of(upper_at(file, at));
-    let read = u64_based::row(column, table, bytes, row);
+    let read = stored_tables::row(column, table, room, bytes, row);
     of_row(read_as(kind, read)).is_stored(file, after(at, 1))
 }
 
 // Asks so many rows, up to the first that is answered otherwise.
 fn ask_rows(
     column: Column,
-    table: &[u64],
+    table: [Block; BLOCKS],
+    room: usize,
     bytes: &[u8],
     file: &[u8],
     from: usize,
@@ -51,7 +61,7 @@ fn ask_rows(
     let mut asked = 0;
     let mut at = from;
     while asked < count {
-        if !row_alike(column, table, bytes, file, at) {
+        if !row_alike(column, table, room, bytes, file, at) {
             break;
         }
         asked += 1;
@@ -84,7 +94,8 @@ fn range_at(file: &[u8], at: usize) -> Range {
 // Whether the lookup at a place, into a list of marks, is answered as stored.
 fn found_alike(
     column: Column,
-    table: &[u64],
+    table: [Block; BLOCKS],
+    room: usize,
     bytes: &[u8],
     file: &[u8],
     at: usize,
@@ -93,9 +104,10 @@ fn found_alike(
     let range = range_at(file, at);
     let first = half_at(file, after(at, 2));
     let end = half_at(file, after(at, 3));
-    match u64_based::lookup(
+    match stored_tables::lookup(
         column,
         table,
+        room,
         bytes,
         range.low,
         range.high,
@@ -109,26 +121,34 @@ fn found_alike(
 }
 
 // The same, with a list of the length that the lookup names.
-fn lookup_alike(column: Column, table: &[u64], bytes: &[u8], file: &[u8], at: usize) -> bool {
+fn lookup_alike(
+    column: Column,
+    table: [Block; BLOCKS],
+    room: usize,
+    bytes: &[u8],
+    file: &[u8],
+    at: usize,
+) -> bool {
     let length = count_at(file, after(at, 4));
     if 256 < length {
         return false;
     }
     let mut found = [ROW; 256];
-    found_alike(column, table, bytes, file, at, &mut found[..length])
+    found_alike(column, table, room, bytes, file, at, &mut found[..length])
 }
 
 // Whether the run at a place, into a list of marks, is answered as stored: a run fills its list, or leaves it.
 fn values_alike(
     column: Column,
-    table: &[u64],
+    table: [Block; BLOCKS],
+    room: usize,
     bytes: &[u8],
     file: &[u8],
     at: usize,
     out: &mut [u64],
 ) -> bool {
     let first = half_at(file, after(at, 2));
-    match u64_based::run(column, table, bytes, first, out) {
+    match stored_tables::run(column, table, room, bytes, first, out) {
         RunRead::Values(n) => {
             n == out.len()
                 && success_stored(n, file, at)
@@ -139,13 +159,20 @@ fn values_alike(
 }
 
 // The same, with a list of the length that the run names.
-fn run_alike(column: Column, table: &[u64], bytes: &[u8], file: &[u8], at: usize) -> bool {
+fn run_alike(
+    column: Column,
+    table: [Block; BLOCKS],
+    room: usize,
+    bytes: &[u8],
+    file: &[u8],
+    at: usize,
+) -> bool {
     let length = count_at(file, after(at, 4));
     if 256 < length {
         return false;
     }
     let mut out = [NUMBER; 256];
-    values_alike(column, table, bytes, file, at, &mut out[..length])
+    values_alike(column, table, room, bytes, file, at, &mut out[..length])
 }
 
 // Whether a column's window is the one at a place, its two numbers behind their count.
@@ -174,25 +201,27 @@ fn narrow_alike(column: Column, file: &[u8], at: usize) -> bool {
 fn asked_alike(
     kind: u64,
     column: Column,
-    table: &[u64],
+    table: [Block; BLOCKS],
+    room: usize,
     bytes: &[u8],
     file: &[u8],
     at: usize,
 ) -> bool {
     if kind == 5 {
-        return run_alike(column, table, bytes, file, at);
+        return run_alike(column, table, room, bytes, file, at);
     }
     if kind == 6 {
         return narrow_alike(column, file, at);
     }
-    lookup_alike(column, table, bytes, file, at)
+    lookup_alike(column, table, room, bytes, file, at)
 }
 
 // Makes so many lookups, runs or narrowings up to the first that is answered otherwise.
 fn ask_lookups(
     kind: u64,
     column: Column,
-    table: &[u64],
+    table: [Block; BLOCKS],
+    room: usize,
     bytes: &[u8],
     file: &[u8],
     from: usize,
@@ -201,7 +230,7 @@ fn ask_lookups(
     let mut asked = 0;
     let mut at = from;
     while asked < count {
-        if !asked_alike(kind, column, table, bytes, file, at) {
+        if !asked_alike(kind, column, table, room, bytes, file, at) {
             break;
         }
         asked += 1;
@@ -210,10 +239,11 @@ fn ask_lookups(
     Walk { asked, at }
 }
 
-// Asks the rows and makes the lookups of a record, which stand from a place on to the record's end. The lookups of a record RUN are runs, those of a record NARROW narrowings.
+// Asks the rows and makes the lookups of a record, with so many blocks of a table. They stand from a place on to the record's end. The lookups of a record RUN are runs, those of a record NARROW narrowings.
 pub fn ask(
     column: Column,
-    table: &[u64],
+    table: [Block; BLOCKS],
+    room: usize,
     bytes: &[u8],
     file: &[u8],
     record: usize,
@@ -222,9 +252,9 @@ pub fn ask(
 ) -> Outcome {
     let rows = count_at(file, after(record, 16));
     let lookups = count_at(file, after(record, 17));
-    let read = ask_rows(column, table, bytes, file, from, rows);
+    let read = ask_rows(column, table, room, bytes, file, from, rows);
     let kind = word_at(file, record) % 256;
-    let looked = ask_lookups(kind, column, table, bytes, file, read.at, lookups);
+    let looked = ask_lookups(kind, column, table, room, bytes, file, read.at, lookups);
     Outcome {
         rows: read.asked,
         lookups: looked.asked,

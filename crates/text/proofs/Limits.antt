@@ -3,10 +3,9 @@
 --     over-rows, over-blocks        16 for a column of more than 1,048,576 rows, and in place of 11
 --     kept-column, kept-refusal     else what opening found
 --     here-opened, here-bounds      what a program opens was opened, with room for 2048 blocks; its maximum has 64 bits
---     here-finds, here-table        so its table is the one that opening fills
 -- Assumes nothing.
 use Prim.Native.Nat.{ℕ, _+_, _*_, _^_, _≤_, _<_}
-use mathlib.Core.Path.{_≡_, refl, sym, ap, _∙_}
+use mathlib.Core.Path.{_≡_, sym, ap, _∙_}
 use mathlib.Core.Bool.{Bool, true, false}
 use mathlib.Core.List.{List, []}
 use native.Mathlib.Nat.{mul-comm}
@@ -20,12 +19,11 @@ use Rattle.format.specs.declared.Refusal.{Refusal}
 use Rattle.format.specs.declared.Spelling.{Spelling}
 use Rattle.format.specs.declared.Refusal.the-variants.{OverLimit}
 use Rattle.format.specs.Listing.{tooMany, openedHere}
-use Rattle.format.specs.Opening.{Loaded, opened, columnIn, tableIn}
+use Rattle.format.specs.Opening.{Loaded, opened, columnIn}
 use Rattle.format.specs.Outcome.{Outcome, Outcome.value, Outcome.refusal, pick}
 use Rattle.format.specs.Refusals.{paper, openedMeaning}
 use Rattle.format.proofs.Laid.{opened-laid}
 use Rattle.format.proofs.Outcomes.{by-demand, by-step, not-value, value-same}
-use Rattle.u64_based.specs.Opening.{Finds, tableFor}
 
 -- ---- the bytes
 
@@ -91,21 +89,6 @@ here-opened s o e = by-demand (leb (length s) 65536) 16 [] (tooMany (opened s 20
     within : (found : Outcome Loaded) → tooMany found ≡ value o → found ≡ value o
     within (value p) e = by-demand (leb (p .column .rows) 1048576) 16 [] (value p) e (λ few same. same)
     within (refusal number also) e = absurd (kept (eqb number 11) number also e)
-
-module _ (s : List ℕ) (answer : Outcome (Column × Spelling)) (is : answer ≡ columnIn (openedHere s)) where
-  -- what a program finds, opening finds
-  pub here-finds : Finds (opened s 2048) answer
-  here-finds a e =
-      by-step (openedHere s) (λ (o : Loaded). value (o .column, o .spelling)) (sym is ∙ e) λ (o : Loaded) found same.
-      ap columnIn (here-opened s o found) ∙ same
-
-  -- with the same table
-  pub here-table : tableFor (opened s 2048) answer ≡ tableIn (openedHere s)
-  here-table = go (openedHere s) refl is
-    where
-      go : (o : Outcome Loaded) → openedHere s ≡ o → answer ≡ columnIn o → tableFor (opened s 2048) answer ≡ tableIn o
-      go (value l) e f = rw f (ap tableIn (here-opened s l e))
-      go (refusal number also) e f = rw f
 
 -- its maximum has 64 bits
 pub here-bounds : (s : List ℕ) (c : Column) (p : Spelling) → columnIn (openedHere s) ≡ value (c, p) → c .minimum + c .gcd * c .count < 2 ^ 64

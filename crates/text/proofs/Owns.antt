@@ -1,12 +1,13 @@
 -- A column that a program opened, with the bytes that it was opened from.
 --     own-few, own-count                 it has fewer than 2^32 rows, and its window counts them as it does
---     own-checked, own-block             its blocks were checked; a pass at the block of a row has the table's block at hand
+--     own-checked, own-blocks, own-block its blocks were checked, as many as the table's; a pass at the block of a row has the table's block at hand
 --     owned-first, owned-at              the pass before the first block, and at the block of a row
 --     own-fits                           all fits together at each of its rows: none is refused 13
+--     same-row                           the window counts a row as the column does
 --     own-answers, own-lacking           so what a row answers is its value, or 14; a row that it lacks answers 12
 --     own-values                         the values of a chunk of which no row is refused
 -- Assumes nothing.
-use Prim.Native.Nat.{ℕ, suc, _+_, _-_, _/_, _^_, _≤_, _<_, min}
+use Prim.Native.Nat.{ℕ, _+_, _-_, _/_, _^_, _≤_, _<_}
 use mathlib.Core.Path.{_≡_, refl, sym, ap, _∙_, subst}
 use mathlib.Core.Bool.{true}
 use mathlib.Core.List.{List, []}
@@ -14,62 +15,25 @@ use native.Mathlib.Omega.{arith}
 use lib.ListN.{length, getD}
 use borrow.Author.Tests.{le-ltb}
 use Rattle.format.specs.declared.Block.{Block}
-use Rattle.format.specs.declared.Codec.{Codec}
-use Rattle.format.specs.declared.Codec.the-variants.{Bitpacked, Linear, Blockwise}
 use Rattle.format.specs.declared.Column.{Column}
-use Rattle.format.specs.declared.Fields.{Fields}
-use Rattle.format.specs.declared.Head.{Head}
-use Rattle.format.specs.declared.Spelling.the-variants.{Shortest}
 use Rattle.format.specs.Bodies.{blockCount}
 use Rattle.format.specs.Listing.{openedHere}
-use Rattle.format.specs.Opening.{Loaded, Table, readBlocks, opened}
+use Rattle.format.specs.Opening.{Loaded}
 use Rattle.format.specs.Outcome.{Outcome.value, Outcome.refusal}
 use Rattle.format.specs.Reading.{columnRow, blockAt, placeOf, fits, valueAt, askedAs}
 use Rattle.format.specs.Runs.{readRun, filledTo}
 use Rattle.format.proofs.Laid.{Laid, opened-laid}
-use Rattle.format.proofs.Openings.{OpensBitpacked, OpensLinear, OpensBlockwise, by-opening}
 use Rattle.format.proofs.Rows.{row-fits, row-answers}
 use Rattle.blockwise_linear.specs.Passing.{passed}
 use Rattle.blockwise_linear.specs.Reader.{firstCursor, blocksFrom, Good}
-use Rattle.blockwise_linear.proofs.Stops.{stop, stop-block, passing-starts}
+use Rattle.blockwise_linear.proofs.Stops.{passing-starts}
 use Rattle.reading.specs.Chunks.{Fitting, chunkSize}
 use Rattle.reading.proofs.Fitting.{fitting}
-use Rattle.reading.proofs.Stretches.{run-stretch, stretch-value}
-use Rattle.u64_based.specs.Opening.{blocked}
+use Rattle.chunks.proofs.Stretches.{run-stretch, stretch-value}
+use Rattle.u64_based.proofs.Passes.{opened-footer, pass-block, few-blocked, passing-at}
 use Rattle.text.specs.Own.{tableOf, ownRow, blockRows, passAt, Opens, Owned, AtRow}
 use Rattle.text.proofs.Limits.{here-opened}
 use Rattle.text.proofs.Rows.{here-first, here-rows, here-lacking}
-
--- ---- its blocks
-
--- they were checked, and are the table's
-record Checked (s : List ℕ) (o : Loaded) : Type 0 where
-  pub table : Table
-  pub is : blocksFrom s (firstCursor s (blockRows (o .column))) ≡ value table
-  pub numbers : table .numbers ≡ o .table
-
-checked : (s : List ℕ) (room : ℕ) (o : Loaded) → opened s room ≡ value o → Checked s o
-unfolding readBlocks
-checked s room =
-    by-opening (λ (o : Loaded). Checked s o) s room
-    (λ (h : Head) (f : OpensBitpacked s h). record { table = record { numbers = []; area = 0; spelling = Shortest }; is = refl; numbers = refl })
-    (λ (h : Head) (g : Fields) (f : OpensLinear s h g). record { table = record { numbers = []; area = 0; spelling = Shortest }; is = refl; numbers = refl })
-    (λ (h : Head) (t : Table) (f : OpensBlockwise s h room t). record { table = t; is = f .blocks; numbers = refl })
-
--- without blocks, there is none at hand
-no-block : (s : List ℕ) (k i : ℕ) → k ≡ 0 → passed s 0 k .block ≡ blockAt [] i
-unfolding passed
-no-block s k i e = rw e
-
-at-block : (s : List ℕ) (room : ℕ) (o : Loaded) → opened s room ≡ value o → o .column .rows < 2 ^ 32 → (r : ℕ) → r < o .column .rows → passAt s (o .column) r .block ≡ blockAt (o .table) (r / 512)
-at-block s room =
-    by-opening (λ (o : Loaded). o .column .rows < 2 ^ 32 → (r : ℕ) → r < o .column .rows → passAt s (o .column) r .block ≡ blockAt (o .table) (r / 512)) s room
-    (λ (h : Head) (f : OpensBitpacked s h) few r inside. no-block s (min (r / 512 + 1) (blockCount 0)) (r / 512) (omega arith))
-    (λ (h : Head) (g : Fields) (f : OpensLinear s h g) few r inside. no-block s (min (r / 512 + 1) (blockCount 0)) (r / 512) (omega arith))
-    (λ (h : Head) (t : Table) (f : OpensBlockwise s h room t) few r inside.
-    let on : min (r / 512 + 1) (blockCount (h .rows)) ≡ suc (r / 512) = omega arith in
-    ap (λ (k : ℕ). passed s (h .rows) k .block) on
-    ∙ stop-block (stop s (h .rows) few t (f .blocks) (r / 512) (omega arith)) (omega arith))
 
 -- ---- what is said of the column is said of what opening found
 
@@ -90,29 +54,24 @@ module _ {s : List ℕ} {c : Column} (e : Opens s c) where
   own-count = by-found (λ (c : Column). c .window .rows ≡ c .rows) (λ o f. sym (here-rows s o f)) e
 
   pub own-checked : Good (blocksFrom s (firstCursor s (blockRows c)))
-  own-checked = by-found (λ (c : Column). Good (blocksFrom s (firstCursor s (blockRows c)))) (λ o f. let t = checked s 2048 o (here-opened s o f) in record { found = t .table; is = t .is }) e
+  own-checked = by-found (λ (c : Column). Good (blocksFrom s (firstCursor s (blockRows c)))) (λ o f. opened-footer s 2048 o (here-opened s o f) .checked) e
+
+  pub own-blocks : blockCount (blockRows c) ≡ length (tableOf (openedHere s))
+  own-blocks = by-found (λ (c : Column). blockCount (blockRows c) ≡ length (tableOf (openedHere s))) (λ o f. rw f (opened-footer s 2048 o (here-opened s o f) .count)) e
 
   pub own-block : (r : ℕ) → r < c .rows → passAt s c r .block ≡ blockAt (tableOf (openedHere s)) (r / 512)
   own-block = by-found (λ (c : Column). (r : ℕ) → r < c .rows → passAt s c r .block ≡ blockAt (tableOf (openedHere s)) (r / 512))
-      (λ o f. rw f (at-block s 2048 o (here-opened s o f) (laid s o f .head .few))) e
+      (λ o f. rw f (pass-block s 2048 o (here-opened s o f) (laid s o f .head .few))) e
 
   -- fewer than 2^32 rows have blocks
   pub few-blocks : blockRows c < 2 ^ 32
-  few-blocks = go (c .codec)
-    where
-      go : (k : Codec) → blocked k (c .rows) < 2 ^ 32
-      go Bitpacked = omega arith
-      go (Linear l w) = omega arith
-      go Blockwise = own-few
+  few-blocks = few-blocked (c .codec) own-few
 
   pub owned-first : Owned s c (passed s (blockRows c) 0)
   owned-first = record { opens = e; pass = passing-starts refl .0 }
 
   pub owned-at : (r : ℕ) → Owned s c (passAt s c r)
-  owned-at r =
-      let k = min (r / 512 + 1) (blockCount (blockRows c)) in
-      let a = stop s (blockRows c) few-blocks (own-checked .found) (own-checked .is) k (omega arith) in
-      record { opens = e; pass = record { stands = ap (passed s (blockRows c)) (sym (a .count)); inside = omega (arith, a .count) } }
+  owned-at r = record { opens = e; pass = passing-at few-blocks own-checked _ (omega arith) }
 
   -- ---- its rows
 
@@ -120,7 +79,7 @@ module _ {s : List ℕ} {c : Column} (e : Opens s c) where
   own-lacking = by-found (λ (c : Column). (r : ℕ) → c .rows ≤ r → ownRow c s r ≡ refusal 12 []) (λ o f r over. here-lacking s o f r (tableOf (openedHere s)) over) e
 
   -- the row as the window counts it
-  same-row : (r : ℕ) → columnRow c r ≡ r
+  pub same-row : (r : ℕ) → columnRow c r ≡ r
   same-row r = omega (arith, first-row)
 
 module _ {s : List ℕ} {c : Column} {b : Block} {r : ℕ} (a : AtRow s c b r) where
@@ -134,8 +93,8 @@ module _ {s : List ℕ} {c : Column} {b : Block} {r : ℕ} (a : AtRow s c b r) w
   -- all fits together there
   pub own-fits : Fitting c (placeOf c b (columnRow c r)) s
   own-fits =
-      fitting c (length (tableOf (openedHere s)) / 4) b s (columnRow c r) (rw block-there
-      (by-found (λ (c : Column). r < c .window .rows → fits c (length (tableOf (openedHere s)) / 4) (blockAt (tableOf (openedHere s)) (columnRow c r / 512)) s (columnRow c r) ≡ true)
+      fitting c (length (tableOf (openedHere s))) b s (columnRow c r) (rw block-there
+      (by-found (λ (c : Column). r < c .window .rows → fits c (length (tableOf (openedHere s))) (blockAt (tableOf (openedHere s)) (columnRow c r / 512)) s (columnRow c r) ≡ true)
       (λ o f h. rw f (row-fits (laid s o f) s (omega arith) r h)) (a .opens) there))
 
   -- the same by the column's row

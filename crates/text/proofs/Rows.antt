@@ -1,12 +1,11 @@
 -- What the rows of a column answer that a program opened.
 --     here-first, here-rows     its window has all rows
 --     here-lacking        a row that it lacks: 12
---     here-answers        a lent table that was filled answers as the opening's own numbers do
---     own-reads           with its own bytes it reads by the opening's own numbers
+--     own-reads           with its own bytes it reads by the opening's own blocks
 --     own-sayable         an answer is one that a line has room for
 -- Assumes nothing.
 use Prim.Native.Nat.{ℕ, _+_, _*_, _/_, _%_, _^_, _≤_, _<_}
-use mathlib.Core.Path.{_≡_, refl, sym, ap, _∙_}
+use mathlib.Core.Path.{_≡_, refl, ap}
 use mathlib.Core.Bool.{Bool, true, false, _&&_}
 use mathlib.Core.Logic.{⊎-elim}
 use mathlib.Core.List.{List, [], _∷_}
@@ -14,7 +13,6 @@ use native.Mathlib.Nat.{mul-comm, mul-le-mul-left}
 use native.Mathlib.Omega.{arith}
 use borrow.Author.Tests.{le-ltb, leb-true}
 use lib.Dec.{leb}
-use lib.ListN.{length}
 use Rattle.format.specs.declared.Block.{Block}
 use Rattle.format.specs.declared.Codec.{Codec}
 use Rattle.format.specs.declared.Codec.the-variants.{Bitpacked, Linear, Blockwise}
@@ -24,11 +22,10 @@ use Rattle.format.specs.Word.{modAdd}
 use Rattle.format.specs.Line.{lineAt}
 use Rattle.format.specs.Opening.{Loaded}
 use Rattle.format.specs.Reading.{columnRow, blockAt, packedOf, valueIn, valueAt, askedAs, rowIn, rowAt}
-use Rattle.format.specs.Demands.{filledBy, answered}
 use Rattle.format.specs.Listing.{openedHere}
 use Rattle.format.proofs.Laid.{opened-laid, opened-whole}
 use Rattle.format.proofs.Lists.{below-or}
-use Rattle.format.proofs.Rows.{filled-row, row-answers}
+use Rattle.format.proofs.Rows.{row-answers}
 use Rattle.text.specs.Own.{tableOf, ownRow}
 use Rattle.text.proofs.Limits.{here-opened}
 use Rattle.text.proofs.Texts.{Sayable}
@@ -71,22 +68,13 @@ module _ (s : List ℕ) (o : Loaded) (found : openedHere s ≡ value o) where
   here-rows = ap (λ (l : Loaded). l .column .window .rows) (opened-whole s 2048 o (here-opened s o found))
 
   -- one that it lacks
-  pub here-lacking : (r : ℕ) (table : List ℕ) → o .column .rows ≤ r → rowAt (o .column) table s r ≡ refusal 12 []
+  pub here-lacking : (r : ℕ) (table : List Block) → o .column .rows ≤ r → rowAt (o .column) table s r ≡ refusal 12 []
   unfolding rowIn
   here-lacking r table h = rw (le-ltb r (o .column .window .rows) (omega (arith, here-rows)))
 
   -- by the table that its opening finds
   pub own-reads : ownRow (o .column) s ≡ rowAt (o .column) (o .table) s
   own-reads = λ i r. rowAt (o .column) (tableOf (found i)) s r
-
-  -- by a lent table that was filled
-  pub here-answers : (table : List ℕ) → 8192 ≤ length table → (r : ℕ) → answered o table s r ≡ rowAt (o .column) (o .table) s r
-  here-answers table enough r =
-      ⊎-elim
-      (λ inside. let laid = opened-laid s 2048 o (here-opened s o found) in
-      filled-row o table s r (omega (arith, laid .table)) (laid .rows .present (columnRow (o .column) r) (omega (arith, here-first))))
-      (λ over. here-lacking r (filledBy o table) over ∙ sym (here-lacking r (o .table) over))
-      (below-or r (o .column .rows))
 
   -- a value inside the column's bounds, 14, or 12
   pub own-sayable : (r : ℕ) → Sayable (ownRow (o .column) s r)

@@ -18,7 +18,7 @@ use Rattle.text.specs.declared.own.Own.{Own}
 -- ---- its rows
 
 -- the table of what opening found; none for a refusal
-abbrev pub tableOf : Outcome Loaded → List ℕ
+abbrev pub tableOf : Outcome Loaded → List Block
 tableOf (value o) = o .table
 tableOf (refusal number also) = []
 

@@ -2,6 +2,7 @@
 // order take their blocks out of the footer, so there is no table.
 ghost use mathlib.Core.Path.{_≡_};
 ghost use lib.ListN.{length};
+ghost use Rattle.format.specs.Bodies.{blockCount};
 ghost use Rattle.format.specs.Refusals.{rowMeaning};
 ghost use Rattle.text.specs.Holding.{Values};
 ghost use Rattle.text.specs.Own.{ownRow, blockRows, ownFirst, passAt, ownAt, Owned, AtRow};
@@ -10,6 +11,7 @@ use format::Block;
 use format::Codec;
 use format::Column;
 use format::ColumnRow;
+use format::Refusal;
 use format::RowRead;
 use format::WindowRow;
 
@@ -29,6 +31,14 @@ fn block_rows(column: Column) -> u32
         Codec::Linear(_, _) => 0,
         Codec::Blockwise => column.rows,
     }
+}
+
+// How many blocks a column has.
+pub fn block_count(column: Column) -> usize
+    ensures { λ r. ⌜ r ≡ blockCount (blockRows column) ⌝ }
+{
+    let rows = block_rows(column);
+    (rows as usize + 511) / 512
 }
 
 // A column of these bytes, before its first block.
@@ -67,13 +77,27 @@ pub(crate) fn row(column: Column, block: Block, bytes: &[u8], row: u32) -> RowRe
     reading::reader::row_fitting(column, block, bytes, WindowRow(row))
 }
 
-// Internal: asks for the same, and a list of 512 entries. The values of the rows from this one to the end of its block, into the front of the list: how many, or none where a row is refused.
+// Internal: asks for a column that was opened of these bytes, and a pass over its blocks. The value of a row; one that the column lacks is refused.
+pub fn answer(own: Own, bytes: &[u8], row: u32) -> RowRead
+    requires { ⌜ Owned (now bytes) (own .column) (own .pass) ⌝ }
+    ensures { λ r. ⌜ rowMeaning r ≡ ownRow (own .column) (now (bytes .entry)) row ⌝ }
+{
+    let column = own.column;
+    if column.rows <= row {
+        return RowRead::Refused(Refusal::NoSuchRow);
+    }
+    let pass = pass_at(column, bytes, own.pass, row);
+    let block = pass.block;
+    crate::own::row(column, block, bytes, row)
+}
+
+// Internal: asks for one of the column's rows, its block, and a list of 512 entries. The values of the rows from this one to the end of its block, into the front of the list: how many, or none where a row is refused.
 pub(crate) fn values(column: Column, block: Block, bytes: &[u8], row: u32, out: &mut [u64]) -> usize
     requires { ⌜ AtRow (now bytes) column block row ⌝ }
     requires { ⌜ length (now out) ≡ 512 ⌝ }
     ensures { λ n. ⌜ Values (ownRow column (now (bytes .entry))) row n (now (out .exit)) ⌝ }
 {
-    let size = reading::walks::chunk_size(ColumnRow(row), column.rows - row);
+    let size = chunks::walks::chunk_size(ColumnRow(row), column.rows - row);
     let n = reading::reader::decode_fitting(column, block, bytes, ColumnRow(row), &mut out[..size]);
     if n < size {
         return 0;

@@ -2,8 +2,7 @@
 
 -- opening
 pub mod Opens
+pub mod Passes
 -- what the contracts come to
 pub mod Determined
-pub mod Calls
-pub mod TypedCalls
 pub mod Cases

@@ -1,29 +1,30 @@
 -- Opening in the order of the code, and the table that belongs to its answer.
 --     opened-none, opened-unknown, opened-known         the code byte decides first; a known one leaves the head and the body
 --     body-blockwise                                    the body of a code that is neither 0 nor 1
---     Tabled, opened-tabled                             the blocks of the rows that an answer has in the table were checked, fit the room, and are the rule's numbers
+--     Tabled, opened-tabled                             the blocks of the rows that an answer has in the table were checked, fit the room, and are the rule's
 --     under-finds, under-table                          a column that a sheet accepts is what opening finds, and so is its table
 --     opened-within                                     an opened column's area ends within the bytes
 -- Assumes nothing.
-use Prim.Native.Nat.{ℕ, zero, suc, _/_, _≤_, _<_}
-use mathlib.Core.Path.{_≡_, refl, sym, ap, _∙_, subst}
+use Prim.Native.Nat.{ℕ, zero, suc, _≤_, _<_}
+use mathlib.Core.Path.{_≡_, refl, sym, _∙_, subst}
 use mathlib.Core.List.{List, [], _∷_}
 use native.Mathlib.Omega.{arith}
 use lib.ListN.{length, getD}
 use borrow.Author.Tests.{le-leb, lt-leb}
+use Rattle.format.specs.declared.Block.{Block}
 use Rattle.format.specs.declared.Column.{Column}
 use Rattle.format.specs.declared.Fields.{Fields}
 use Rattle.format.specs.declared.Head.{Head}
 use Rattle.format.specs.declared.Spelling.{Spelling}
 use Rattle.format.specs.declared.Spelling.the-variants.{Shortest}
-use Rattle.format.specs.Outcome.{Outcome, Outcome.value, Outcome.refusal, _>>=_, _>>_, stored}
+use Rattle.format.specs.Outcome.{Outcome, Outcome.value, Outcome.refusal, _>>=_, stored}
 use Rattle.format.specs.Stats.{readHead}
 use Rattle.format.specs.Opening.{Loaded, Table, readBlocks, openBlockwise, openBody, opened, columnIn, tableIn}
-use Rattle.format.specs.Sheets.{underSheet, openedUnder}
+use Rattle.format.specs.Sheets.{openedUnder}
 use Rattle.format.proofs.Outcomes.{not-value, value-same}
 use Rattle.format.proofs.Laid.{opened-laid}
 use Rattle.format.proofs.Openings.{OpensBitpacked, OpensLinear, OpensBlockwise, by-opening}
-use Rattle.blockwise_linear.specs.Reader.{firstCursor, blocksFrom, numbersIn, Fillable}
+use Rattle.blockwise_linear.specs.Reader.{firstCursor, blocksFrom, listed, Fillable}
 use Rattle.sheets.specs.Faults.{AllWithin}
 use Rattle.sheets.proofs.SheetNumbers.{accepted}
 use Rattle.u64_based.specs.Opening.{tabled, tableFor, Finds}
@@ -54,31 +55,31 @@ body-blockwise (suc (suc c)) s h room n0 n1 = refl
 -- ---- the table
 
 pub record Tabled (s : List ℕ) (room : ℕ) (o : Outcome Loaded) (answer : Outcome (Column × Spelling)) : Type 0 where
-  pub fillable : (long : ℕ) → room ≡ long / 4 → Fillable s (tabled answer) long
-  pub same : (l : List ℕ) → stored (numbersIn (blocksFrom s (firstCursor s (tabled answer)))) l ≡ stored (tableFor o answer) l
+  pub fillable : Fillable s (tabled answer) room
+  pub same : (l : List Block) → stored (listed (blocksFrom s (firstCursor s (tabled answer)))) l ≡ stored (tableFor o answer) l
 
 -- no rows have no blocks
-none-fillable : (s : List ℕ) (long : ℕ) → Fillable s 0 long
+none-fillable : (s : List ℕ) (room : ℕ) → Fillable s 0 room
 unfolding readBlocks
-none-fillable s long = record { checked = record { found = record { numbers = []; area = 0; spelling = Shortest }; is = refl }; enough = omega arith }
+none-fillable s room = record { checked = record { found = record { blocks = []; area = 0; spelling = Shortest }; is = refl }; enough = omega arith }
 
-none-same : (s l : List ℕ) → stored (numbersIn (blocksFrom s (firstCursor s 0))) l ≡ l
+none-same : (s : List ℕ) (l : List Block) → stored (listed (blocksFrom s (firstCursor s 0))) l ≡ l
 unfolding readBlocks
 none-same s l = refl
 
 pub opened-tabled : (s : List ℕ) (room : ℕ) (answer : Outcome (Column × Spelling)) → Finds (opened s room) answer → Tabled s room (opened s room) answer
-opened-tabled s room (refusal n also) finds = record { fillable = λ long fit. none-fillable s long; same = none-same s }
+opened-tabled s room (refusal n also) finds = record { fillable = none-fillable s room; same = none-same s }
 opened-tabled s room (value a) finds = go (opened s room) refl (finds a refl)
   where
     go : (o : Outcome Loaded) → opened s room ≡ o → columnIn o ≡ value a → Tabled s room o (value a)
     go (refusal n also) e is = absurd (not-value is)
     go (value o) e is = rw (← value-same is)
         (by-opening (λ (o : Loaded). Tabled s room (value o) (value (o .column, o .spelling))) s room
-        (λ (h : Head) (f : OpensBitpacked s h). record { fillable = λ long fit. none-fillable s long; same = none-same s })
-        (λ (h : Head) (g : Fields) (f : OpensLinear s h g). record { fillable = λ long fit. none-fillable s long; same = none-same s })
+        (λ (h : Head) (f : OpensBitpacked s h). record { fillable = none-fillable s room; same = none-same s })
+        (λ (h : Head) (g : Fields) (f : OpensLinear s h g). record { fillable = none-fillable s room; same = none-same s })
         (λ (h : Head) (t : Table) (f : OpensBlockwise s h room t). record {
-          fillable = λ (long : ℕ) (fit : room ≡ long / 4). record { checked = record { found = t; is = f .blocks }; enough = omega (arith, f .enough) };
-          same = λ (l : List ℕ). rw (f .blocks);
+          fillable = record { checked = record { found = t; is = f .blocks }; enough = f .enough };
+          same = λ (l : List Block). rw (f .blocks);
         })
         o e)
 

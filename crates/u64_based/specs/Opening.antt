@@ -3,6 +3,7 @@
 use Prim.Native.Nat.{ℕ}
 use mathlib.Core.Path.{_≡_}
 use mathlib.Core.List.{List}
+use Rattle.format.specs.declared.Block.{Block}
 use Rattle.format.specs.declared.Codec.{Codec}
 use Rattle.format.specs.declared.Codec.the-variants.{Bitpacked, Linear, Blockwise}
 use Rattle.format.specs.declared.Column.{Column}
@@ -25,7 +26,7 @@ tabled (refusal number also) = 0
 abbrev pub Finds : (found : Outcome Loaded) (answer : Outcome (Column × Spelling)) → Type 0
 Finds found answer = (a : Column × Spelling) → answer ≡ value a → columnIn found ≡ value a
 
--- the numbers for its table: none for a refusal
-abbrev pub tableFor : (found : Outcome Loaded) (answer : Outcome (Column × Spelling)) → Outcome (List ℕ)
+-- the blocks for its table: none for a refusal
+abbrev pub tableFor : (found : Outcome Loaded) (answer : Outcome (Column × Spelling)) → Outcome (List Block)
 tableFor found (value a) = tableIn found
 tableFor found (refusal number also) = refusal number also

@@ -1,36 +1,25 @@
-// A column of numbers of 64 bits: the entry points. No argument makes a call fail but by a numbered refusal, and each contract
-// says what a call answers and what every lent entry holds afterwards.
+// A column of numbers of 64 bits: the entry points that need no block table. No argument makes a call fail but by a numbered refusal, and each contract
+// says what a call answers and what every lent entry holds afterwards. Those that do stand in `records`.
 pub mod opening;
 
 ghost use mathlib.Core.Path.{_≡_};
-ghost use Prim.Native.Nat.{_-_, _/_};
 ghost use lib.ListN.{length};
-ghost use Rattle.format.specs.Refusals.{statedMeaning, openedMeaning, narrowedMeaning, rowMeaning};
+ghost use Rattle.format.specs.Refusals.{statedMeaning, openedMeaning, narrowedMeaning};
 ghost use Rattle.format.specs.Stats.{stated};
 ghost use Rattle.format.specs.Writing.{written};
 ghost use Rattle.format.specs.Opening.{columnIn, opened};
 ghost use Rattle.format.specs.Sheets.{openedUnder};
-ghost use Rattle.format.specs.Lookup.{lookedUp, within};
-ghost use Rattle.format.specs.Reading.{columnRow, rowAt};
-ghost use Rattle.format.specs.Runs.{decoded};
 ghost use Rattle.format.specs.Typed.{storedAs};
 ghost use Rattle.format.specs.Windows.{narrowing};
-ghost use Rattle.format.specs.Calls.{SerializedAs, OpenedAs, FoundAs, RunAs};
-ghost use Rattle.reading.specs.Chunks.{chunkSize};
-ghost use Rattle.reading.specs.Stretch.{StretchAs};
+ghost use Rattle.format.specs.Calls.{SerializedAs};
 use format::Column;
-use format::Found;
 use format::Kind;
 use format::Narrowed;
 use format::Opened;
 use format::Refusal;
-use format::RowRead;
-use format::RunRead;
 use format::Stated;
 use format::Window;
-use format::WindowRow;
 use format::Written;
-use reading::taking::Stretch;
 use stats::HeadRead;
 use writing::choice::Best;
 use writing::choice::Place;
@@ -105,24 +94,6 @@ pub fn open_plain_under(sheet: u32, bytes: &[u8], room: usize) -> Opened
     sheets::under(sheet, answer, bytes)
 }
 
-// Opens a column under an acceptance sheet, says how its numbers are spelled, and puts the blocks of a Blockwise one into the lent table, four
-// numbers a block. A refusal, 17 included, leaves the table as it was; so does a column without blocks.
-pub fn open_under(sheet: u32, bytes: &[u8], table: &mut [u64]) -> Opened
-    ensures { λ r. ⌜ OpenedAs (openedUnder sheet (now (bytes .entry)) (length (now (table .entry)) / 4)) r (now (table .entry)) (now (table .exit)) ⌝ }
-{
-    let room = table.len() / 4;
-    let answer = open_plain_under(sheet, bytes, room);
-    opening::fill(bytes, answer, table);
-    answer
-}
-
-// Opens a column under sheet 1.
-pub fn open(bytes: &[u8], table: &mut [u64]) -> Opened
-    ensures { λ r. ⌜ OpenedAs (opened (now (bytes .entry)) (length (now (table .entry)) / 4)) r (now (table .entry)) (now (table .exit)) ⌝ }
-{
-    open_under(1, bytes, table)
-}
-
 // Narrows a column's window to `count` rows from its row `first` on. A refusal returns the column as it was.
 pub fn narrow(column: Column, first: u32, count: u32) -> Narrowed
     ensures { λ r. ⌜ narrowedMeaning r ≡ narrowing column first count ⌝ }
@@ -148,68 +119,4 @@ pub fn narrow(column: Column, first: u32, count: u32) -> Narrowed
         window,
         codec,
     })
-}
-
-// The value of a row of an opened column's window, with its table and its bytes.
-pub fn row(column: Column, table: &[u64], bytes: &[u8], row: WindowRow) -> RowRead
-    ensures { λ r. ⌜ rowMeaning r ≡ rowAt column (now (table .entry)) (now (bytes .entry)) (row .0) ⌝ }
-{
-    let at = reading::reader::column_row(column.window.first, row);
-    let k = blockwise_linear::reader::split(at).block;
-    let block = blockwise_linear::reader::block_at(table, k);
-    reading::reader::row_in(column, table.len() / 4, block, bytes, row)
-}
-
-// The rows from `first` to `end`, cut to the window's rows, whose value lies from `low` to `high`, ascending into the first entries of `found`. The
-// first row that reading refuses decides, so the rows are counted before any is stored: one loop over the chunks serves both passes.
-pub fn lookup(
-    column: Column,
-    table: &[u64],
-    bytes: &[u8],
-    low: u64,
-    high: u64,
-    first: u32,
-    end: u32,
-    found: &mut [u32],
-) -> Found
-    ensures { λ r. ⌜ FoundAs (lookedUp (rowAt column (now (table .entry)) (now (bytes .entry))) (column .window .rows) (within low high) first end (length (now (found .entry)))) r (now (found .entry)) (now (found .exit)) ⌝ }
-{
-    let blocks = table.len() / 4;
-    let mut w = reading::finding::begin(column.window, first, end);
-    while w.going {
-        let block = blockwise_linear::reader::block_at(table, reading::walks::block_of(w));
-        w = reading::finding::step(column, blocks, block, bytes, low, high, w, found);
-    }
-    reading::finding::answer(w)
-}
-
-// The values of the window's rows from `first` on, as many as the lent list has entries, into that list. A run that leaves the rows is refused before all else; then the
-// first row that reading refuses decides. A refusal leaves the list as it was.
-pub fn run(column: Column, table: &[u64], bytes: &[u8], first: u32, out: &mut [u64]) -> RunRead
-    ensures { λ r. ⌜ RunAs (decoded (rowAt column (now (table .entry)) (now (bytes .entry))) (column .window .rows) first (length (now (out .entry)))) r (now (out .entry)) (now (out .exit)) ⌝ }
-{
-    let blocks = table.len() / 4;
-    let mut w = reading::runs::begin(column.window, first, out.len());
-    while w.going {
-        let block = blockwise_linear::reader::block_at(table, reading::walks::block_of(w));
-        w = reading::runs::step(column, blocks, block, bytes, w, out);
-    }
-    reading::runs::answer(w)
-}
-
-// The values of the window's rows from `first` to the end of its block, or of the window, up to the first that reading refuses, into the front of the lent list; how many, and that row's
-// refusal if there is one. A row that is not below the window's has none.
-pub fn chunk(
-    column: Column,
-    table: &[u64],
-    bytes: &[u8],
-    first: u32,
-    out: &mut [u64; 512],
-) -> Stretch
-    ensures { λ r. ⌜ StretchAs (rowAt column (now (table .entry)) (now (bytes .entry))) first (chunkSize (columnRow column first) (column .window .rows - first)) r (now (out .entry)) (now (out .exit)) ⌝ }
-{
-    let at = reading::reader::column_row(column.window.first, WindowRow(first));
-    let k = blockwise_linear::reader::split(at).block;
-    let block = blockwise_linear::reader::block_at(table, k);
-    reading::taking::take(column, table.len() / 4, block, bytes, first, out)
 }

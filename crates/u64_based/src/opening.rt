@@ -1,11 +1,8 @@
-// The parts of opening: the body of a codec, and the table of an answer.
+// The parts of opening: the body of a codec, and the rows of an answer that have blocks.
 ghost use mathlib.Core.Path.{_≡_};
-ghost use Prim.Native.Nat.{_/_};
-ghost use lib.ListN.{length};
-ghost use Rattle.format.specs.Outcome.{stored};
 ghost use Rattle.format.specs.Refusals.{openedMeaning};
-ghost use Rattle.format.specs.Opening.{columnIn, openBody, opened};
-ghost use Rattle.u64_based.specs.Opening.{tabled, tableFor, Finds};
+ghost use Rattle.format.specs.Opening.{columnIn, openBody};
+ghost use Rattle.u64_based.specs.Opening.{tabled};
 use format::Codec;
 use format::Head;
 use format::Opened;
@@ -36,14 +33,4 @@ pub fn table_rows(opened: Opened) -> u32
         }
         Opened::Refused(_) => 0,
     }
-}
-
-// Internal: asks that a column in the answer is what opening these bytes finds, for a table of this length. Puts its blocks into the table;
-// a refusal leaves the table as it was.
-pub fn fill(bytes: &[u8], answer: Opened, table: &mut [u64])
-    requires { ⌜ Finds (opened (now bytes) (length (now table) / 4)) (openedMeaning answer) ⌝ }
-    ensures { λ _. ⌜ now (table .exit) ≡ stored (tableFor (opened (now (bytes .entry)) (length (now (table .entry)) / 4)) (openedMeaning answer)) (now (table .entry)) ⌝ }
-{
-    let rows = table_rows(answer);
-    blockwise_linear::reader::fill(bytes, rows, table);
 }

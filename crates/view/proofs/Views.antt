@@ -12,14 +12,14 @@ use native.Mathlib.Omega.{arith}
 use lib.Dec.{leb, ltb, eqb}
 use lib.ListN.{length, take, drop, getD}
 use borrow.Author.Tests.{leb-true, le-leb, ne-eqb}
+use Rattle.format.specs.declared.Block.{Block}
 use Rattle.format.specs.declared.Codec.{Codec}
-use Rattle.format.specs.declared.Codec.the-variants.{Bitpacked, Linear, Blockwise}
 use Rattle.format.specs.declared.Column.{Column}
 use Rattle.format.specs.declared.Field.{Field}
 use Rattle.format.specs.declared.Fields.{Fields}
 use Rattle.format.specs.declared.Head.{Head}
 use Rattle.format.specs.declared.Spelling.{Spelling}
-use Rattle.format.specs.Outcome.{Outcome, Outcome.value, Outcome.refusal, _>>=_, _>>_, demand, pick}
+use Rattle.format.specs.Outcome.{Outcome, Outcome.value, Outcome.refusal, _>>=_, _>>_, demand}
 use Rattle.format.specs.Varint.{Scan, Scan.none, Scan.found, scan, taken, readVarint}
 use Rattle.format.specs.Packing.{legal, bytesNum}
 use Rattle.format.specs.Stats.{readHead}
@@ -224,10 +224,10 @@ viewed-within s a is = subst (λ (x : Outcome (Column × Spelling)). AllWithin x
     (plain-opens s))
 
 -- every row of it answers as it does with whatever table
-pub view-rows : (sheet : ℕ) (s : List ℕ) (o : Loaded) → viewedUnder sheet s ≡ value o → (table : List ℕ) (r : ℕ) → rowAt (o .column) [] s r ≡ rowAt (o .column) table s r
+pub view-rows : (sheet : ℕ) (s : List ℕ) (o : Loaded) → viewedUnder sheet s ≡ value o → (table : List Block) (r : ℕ) → rowAt (o .column) [] s r ≡ rowAt (o .column) table s r
 unfolding rowIn fits rowFits placeIn packedOf valueIn
 view-rows sheet s o e =
-    by-view (λ (l : Loaded). (table : List ℕ) (r : ℕ) → rowAt (l .column) [] s r ≡ rowAt (l .column) table s r) s
-    (λ (h : Head) (table : List ℕ) (r : ℕ). refl)
-    (λ (h : Head) (f : Fields) (table : List ℕ) (r : ℕ). refl)
+    by-view (λ (l : Loaded). (table : List Block) (r : ℕ) → rowAt (l .column) [] s r ≡ rowAt (l .column) table s r) s
+    (λ (h : Head) (table : List Block) (r : ℕ). refl)
+    (λ (h : Head) (f : Fields) (table : List Block) (r : ℕ). refl)
     o (accepted sheet s (viewed s) o e)

@@ -1,7 +1,6 @@
 -- What a view holds, from the answer of an opening.
 -- Assumes nothing.
-use Prim.Native.Nat.{ℕ}
-use mathlib.Core.List.{List, []}
+use mathlib.Core.List.{[]}
 use lib.Dec.{eqb}
 use Rattle.format.specs.declared.Codec.{Codec}
 use Rattle.format.specs.declared.Codec.the-variants.{Bitpacked, Linear, Blockwise}

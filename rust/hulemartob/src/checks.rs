@@ -2,7 +2,7 @@
 
 use std::fmt;
 
-use crate::{Refusal, Value, ffi};
+use crate::{Block, Refusal, Value, ffi};
 
 /// Why a column does not hold a list: the first reason, in this order.
 #[derive(Clone, Copy, Debug, PartialEq, Eq, Hash)]
@@ -74,10 +74,10 @@ impl std::error::Error for Mismatch {}
 /// ```
 pub fn check<T: Value>(sheet: u32, bytes: &[u8], values: &[T]) -> Result<(), Mismatch> {
     let words = T::words(values);
-    let verdict = |table: &mut [u64]| Mismatch::from_numbers(ffi::check(T::KIND, sheet, bytes, &words, table));
+    let verdict = |table: &mut [Block]| Mismatch::from_numbers(ffi::check(T::KIND, sheet, bytes, &words, table));
     match verdict(&mut []) {
         // Room for the blocks of a Blockwise column, which opening asks for.
-        Err(Mismatch::Unopened(Refusal { number: 11, value: blocks })) => verdict(&mut vec![0; 4 * blocks as usize]),
+        Err(Mismatch::Unopened(Refusal { number: 11, value: blocks })) => verdict(&mut ffi::zeroed_table(blocks as usize)),
         answer => answer,
     }
 }

@@ -5,10 +5,11 @@
 //! below has the same reason: every pointer comes from a reference that lives through the call, with its own length beside it, and
 //! what is lent as `&mut` is lent to nothing else.
 
+use std::mem::ManuallyDrop;
 use std::ops::RangeInclusive;
 use std::slice;
 
-use crate::{Date, Kind, Refusal};
+use crate::{Block, Date, Kind, Refusal};
 
 unsafe extern "C" {
     fn hulemartob_column_stats(values: *const u64, values_len: usize, stats: *mut [u64; 4], refusal: *mut [u64; 2]);
@@ -27,7 +28,7 @@ unsafe extern "C" {
         sheet: u32,
         bytes: *const u8,
         bytes_len: usize,
-        table: *mut u64,
+        table: *mut Block,
         table_len: usize,
         column: *mut [u64; 12],
         refusal: *mut [u64; 2],
@@ -37,7 +38,7 @@ unsafe extern "C" {
 
     fn hulemartob_row(
         column: *const [u64; 12],
-        table: *const u64,
+        table: *const Block,
         table_len: usize,
         bytes: *const u8,
         bytes_len: usize,
@@ -47,7 +48,7 @@ unsafe extern "C" {
 
     fn hulemartob_lookup(
         column: *const [u64; 12],
-        table: *const u64,
+        table: *const Block,
         table_len: usize,
         bytes: *const u8,
         bytes_len: usize,
@@ -62,7 +63,7 @@ unsafe extern "C" {
 
     fn hulemartob_run(
         column: *const [u64; 12],
-        table: *const u64,
+        table: *const Block,
         table_len: usize,
         bytes: *const u8,
         bytes_len: usize,
@@ -74,7 +75,7 @@ unsafe extern "C" {
 
     fn hulemartob_replay(
         column: *const [u64; 12],
-        table: *const u64,
+        table: *const Block,
         table_len: usize,
         bytes: *const u8,
         bytes_len: usize,
@@ -95,7 +96,7 @@ unsafe extern "C" {
 
     fn hulemartob_rows_at(
         column: *const [u64; 12],
-        table: *const u64,
+        table: *const Block,
         table_len: usize,
         bytes: *const u8,
         bytes_len: usize,
@@ -124,7 +125,7 @@ unsafe extern "C" {
         bytes_len: usize,
         values: *const u64,
         values_len: usize,
-        table: *mut u64,
+        table: *mut Block,
         table_len: usize,
         verdict: *mut [u64; 3],
         refusal: *mut [u64; 2],
@@ -167,9 +168,16 @@ pub(crate) fn serialize(values: &[u64], codecs: &[u8], out: &mut [u8]) -> Result
     answer(refusal, length)
 }
 
+/// A table of so many records of zeros, whose memory is handed out as it is touched.
+pub(crate) fn zeroed_table(blocks: usize) -> Vec<Block> {
+    let mut zeros = ManuallyDrop::new(vec![[0u64; 4]; blocks]);
+    // SAFETY: the vector is not dropped, and a record is four numbers in C's layout: as long as the array, and aligned as it is.
+    unsafe { Vec::from_raw_parts(zeros.as_mut_ptr().cast(), zeros.len(), zeros.capacity()) }
+}
+
 /// The twelve numbers of a column opened under a sheet, and the offset of its first number that is spelled in more bytes than it need be; `table`
 /// has its blocks.
-pub(crate) fn open_under(sheet: u32, bytes: &[u8], table: &mut [u64]) -> Result<([u64; 12], Option<u64>), Refusal> {
+pub(crate) fn open_under(sheet: u32, bytes: &[u8], table: &mut [Block]) -> Result<([u64; 12], Option<u64>), Refusal> {
     let (mut column, mut refusal) = ([0; 12], [0; 2]);
     // SAFETY: see the top of this file.
     let longer = unsafe {
@@ -188,7 +196,7 @@ pub(crate) fn narrow(column: &[u64; 12], first: u32, count: u32) -> Result<[u64;
 
 /// The value of a row.
 #[inline]
-pub(crate) fn row(column: &[u64; 12], table: &[u64], bytes: &[u8], row: u32) -> Result<u64, Refusal> {
+pub(crate) fn row(column: &[u64; 12], table: &[Block], bytes: &[u8], row: u32) -> Result<u64, Refusal> {
     let mut refusal = [0; 2];
     // SAFETY: see the top of this file.
     let value = unsafe { hulemartob_row(column, table.as_ptr(), table.len(), bytes.as_ptr(), bytes.len(), row, &mut refusal) };
@@ -198,7 +206,7 @@ pub(crate) fn row(column: &[u64; 12], table: &[u64], bytes: &[u8], row: u32) -> 
 /// How many rows of `rows` have a value from `low` to `high`; `found` has them.
 pub(crate) fn lookup(
     column: &[u64; 12],
-    table: &[u64],
+    table: &[Block],
     bytes: &[u8],
     (low, high): (u64, u64),
     (first, end): (u32, u32),
@@ -226,7 +234,7 @@ pub(crate) fn lookup(
 }
 
 /// How many values now fill `out`.
-pub(crate) fn run(column: &[u64; 12], table: &[u64], bytes: &[u8], first: u32, out: &mut [u64]) -> Result<usize, Refusal> {
+pub(crate) fn run(column: &[u64; 12], table: &[Block], bytes: &[u8], first: u32, out: &mut [u64]) -> Result<usize, Refusal> {
     let mut refusal = [0; 2];
     // SAFETY: see the top of this file.
     let many = unsafe {
@@ -246,7 +254,7 @@ pub(crate) fn run(column: &[u64; 12], table: &[u64], bytes: &[u8], first: u32, o
 }
 
 /// The index of the first record that differs, 2^64 - 1 where all agree, and how many were run.
-pub(crate) fn replay(column: &[u64; 12], table: &[u64], bytes: &[u8], recording: &[u8]) -> Result<[u64; 2], Refusal> {
+pub(crate) fn replay(column: &[u64; 12], table: &[Block], bytes: &[u8], recording: &[u8]) -> Result<[u64; 2], Refusal> {
     let (mut report, mut refusal) = ([0; 2], [0; 2]);
     // SAFETY: see the top of this file.
     unsafe {
@@ -274,7 +282,7 @@ pub(crate) fn part_at(column: &[u64; 12], bytes: &[u8], offset: usize) -> Result
 }
 
 /// The first row that owns a bit of the byte at an offset, and the one behind the last.
-pub(crate) fn rows_at(column: &[u64; 12], table: &[u64], bytes: &[u8], offset: usize) -> Result<[u64; 2], Refusal> {
+pub(crate) fn rows_at(column: &[u64; 12], table: &[Block], bytes: &[u8], offset: usize) -> Result<[u64; 2], Refusal> {
     let (mut rows, mut refusal) = ([0; 2], [0; 2]);
     // SAFETY: see the top of this file.
     unsafe {
@@ -347,7 +355,7 @@ pub(crate) fn serialize_as(kind: Kind, values: &[u64], codecs: &[u8], out: &mut 
 }
 
 /// The three numbers of the verdict on a column under a sheet, for a list of values of a kind. No kind that there is makes the call refuse.
-pub(crate) fn check(kind: Kind, sheet: u32, bytes: &[u8], values: &[u64], table: &mut [u64]) -> [u64; 3] {
+pub(crate) fn check(kind: Kind, sheet: u32, bytes: &[u8], values: &[u64], table: &mut [Block]) -> [u64; 3] {
     let (mut verdict, mut refusal) = ([0; 3], [0; 2]);
     // SAFETY: see the top of this file.
     unsafe {

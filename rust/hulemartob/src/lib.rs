@@ -57,6 +57,20 @@ pub use typed::{
 /// Rows in a block of a Blockwise column.
 const BLOCK: usize = 512;
 
+/// A block of a Blockwise column, as the block table has it. Any numbers may be handed to reading.
+#[repr(C)]
+#[derive(Clone, Copy, Debug, Default, PartialEq, Eq)]
+pub struct Block {
+    /// The slope of the block's line, with 32 bits after the point.
+    pub slope: u64,
+    /// The line's value at the block's first row.
+    pub intercept: u64,
+    /// The width of the packed numbers, in bits.
+    pub width: u64,
+    /// The block's first byte, counted from the start of the packed area.
+    pub start: u64,
+}
+
 /// How a column's rows are coded. The numbers are those of a column's first byte.
 #[derive(Clone, Copy, Debug, PartialEq, Eq, Hash)]
 #[repr(u8)]
@@ -141,7 +155,7 @@ pub struct Column<'a> {
     bytes: &'a [u8],
     numbers: [u64; 12],
     longer: Option<u64>,
-    table: Arc<[u64]>,
+    table: Arc<[Block]>,
 }
 
 impl<'a> Column<'a> {
@@ -167,10 +181,10 @@ impl<'a> Column<'a> {
     pub fn open_under(sheet: u32, bytes: &'a [u8]) -> Result<Column<'a>, Refusal> {
         let mut table = Vec::new();
         let (numbers, longer) = match ffi::open_under(sheet, bytes, &mut table) {
-            // Zeroed memory is handed out as it is touched, and opening touches the table only once the column is known to be sound. So
-            // a damaged column of a few bytes that claims 2^32 rows costs nothing here.
+            // Opening touches the table only once the column is known to be sound. So a damaged column of a few bytes that claims 2^32 rows
+            // costs nothing here.
             Err(Refusal { number: 11, value: blocks }) => {
-                table = vec![0; 4 * blocks as usize];
+                table = ffi::zeroed_table(blocks as usize);
                 ffi::open_under(sheet, bytes, &mut table)?
             }
             answer => answer?,
@@ -179,9 +193,8 @@ impl<'a> Column<'a> {
     }
 
     /// A column of any numbers and any table: codec, minimum, gcd, count, rows, start and size of the packed area; slope, intercept and
-    /// width of a Linear column, else 0; first row and row count of its window. Four numbers a block in the table: slope, intercept, width, start. What does not belong together
-    /// is refused 13 as it is read.
-    pub fn from_parts(bytes: &'a [u8], numbers: [u64; 12], table: Vec<u64>) -> Column<'a> {
+    /// width of a Linear column, else 0; first row and row count of its window. What does not belong together is refused 13 as it is read.
+    pub fn from_parts(bytes: &'a [u8], numbers: [u64; 12], table: Vec<Block>) -> Column<'a> {
         Column { bytes, numbers, longer: None, table: table.into() }
     }
 
@@ -208,8 +221,8 @@ impl<'a> Column<'a> {
         &self.numbers
     }
 
-    /// The block table, four numbers a block; empty unless the column is Blockwise.
-    pub fn table(&self) -> &[u64] {
+    /// The block table, a record a block; empty unless the column is Blockwise.
+    pub fn table(&self) -> &[Block] {
         &self.table
     }
 

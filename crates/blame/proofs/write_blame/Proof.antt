@@ -2,11 +2,12 @@
 -- Assumes nothing.
 use Rattle.io.specs.Counts.{Counts}
 use borrow.Author.Needs.{needs}
+use Rattle.blaming.proofs.Beginnings.{begun-opens}
 use Rattle.blame.proofs.write_blame.Statement.{statement}
 use Rattle.blame.proofs.write_blame.Tie as tie
 
 -- the only line is there
-only-line : (c : tie.After-n) → Counts (c .n .given .0 .0) (c .before .before .begin .last .1 .1 .1 .1 .0)
+only-line : (c : tie.After-n) → Counts (c .n .given .0 .0) (c .before .before .begin .last .1 .1 .0)
 only-line c = rw (c .n .given .1) at (c .before .before .begin .ensures .counts)
 
 begin-requires : tie.Need-begin-requires
@@ -34,13 +35,18 @@ slice-aggregate-write-bytes : tie.Need-slice-aggregate-write-bytes
 slice-aggregate-write-bytes c = search needs
 
 write-bytes-requires : tie.Need-write-bytes-requires
-write-bytes-requires c κs = search needs
+write-bytes-requires c κs =
+    let o = c .before .before .before in
+    let both = begun-opens (rw (o .column .given .1) at (o .before .before .begin .ensures)) in
+    (both, search needs)
 
 returns : tie.Need-returns
 returns c = search needs
 
 end-line-requires : tie.Need-end-line-requires
-end-line-requires c κs = search needs
+end-line-requires c κs =
+    let o = c .before .before .before .before .before .before .before in
+    begun-opens (rw (o .column .given .1) at (o .before .before .begin .ensures)) .0
 
 array-share-prefix-line-2 : tie.Need-array-share-prefix-line-2
 array-share-prefix-line-2 c = search needs

@@ -12,26 +12,26 @@ use Rattle.blame.proofs.write_bytes.Statement.{statement}
 use Rattle.blame.proofs.write_bytes.Tie as tie
 
 abbrev Inv-loop : tie.InvT-loop
-Inv-loop left ltable lbytes right rtable rbytes out₀ from₀ out from = (from ≤ length lbytes) × (blameMax ≤ length out) × (length out ≡ length out₀)
+Inv-loop left lbytes right rbytes out₀ from₀ out from = (from ≤ length lbytes) × (blameMax ≤ length out) × (length out ≡ length out₀)
 
 abbrev μ-loop : tie.MeasureT-loop
-μ-loop left ltable lbytes right rtable rbytes out₀ from₀ out from = length lbytes - from
+μ-loop left lbytes right rbytes out₀ from₀ out from = length lbytes - from
 
 -- after the call: what its answer gives
 took-here : (c : tie.After-fill-lines Inv-loop μ-loop) →
-    let turn = c .before .before .before .before in
+    let turn = c .before .before in
     let a = turn .before .before .before .before .before .args in
     Took (length (now (a .lbytes))) (turn .before .loop .from) (c .fill-lines .result .offsets)
 took-here c =
-    let turn = c .before .before .before .before in
+    let turn = c .before .before in
     let a = turn .before .before .before .before .before .args in
-    looked (textAt (a .left) (now (a .ltable)) (now (a .lbytes)) (a .right) (now (a .rtable)) (now (a .rbytes))) _ (length (turn .before .loop .out)) _ _ (c .fill-lines .ensures .0) (omega arith) (omega arith)
+    looked (textAt (a .left) (now (a .lbytes)) (a .right) (now (a .rbytes))) _ (length (turn .before .loop .out)) _ _ (c .fill-lines .ensures .0) (omega arith) (omega arith)
 
 loop-holds : tie.Need-loop-holds Inv-loop μ-loop
 loop-holds c = omega arith
 
 fill-lines-requires : tie.Need-fill-lines-requires Inv-loop μ-loop
-fill-lines-requires c κs = tt
+fill-lines-requires c κs = c .before .before .before .before .before .before .pre .0
 
 slice-reshare-prefix-write-all : tie.Need-slice-reshare-prefix-write-all Inv-loop μ-loop
 slice-reshare-prefix-write-all c = c .before .before .fill-lines .ensures .1 .1 .0

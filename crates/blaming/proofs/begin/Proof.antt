@@ -1,11 +1,8 @@
--- `begin` meets its contract: the only line, by the first test that gives one, or both columns with their tables.
+-- `begin` meets its contract: the only line, by the first test that gives one, or both columns.
 -- Assumes nothing.
 use mathlib.Core.Path.{sym, _∙_}
 use borrow.Author.Tests.{eq-eqb, ne-eqb}
 use denote.Ref.{now}
-use Rattle.format.specs.Listing.{openedHere}
-use Rattle.format.specs.Refusals.{openedMeaning}
-use Rattle.format.proofs.Outcomes.{told}
 use Rattle.blaming.proofs.Beginnings.{column-found, refused-found, begun-only, begun-both}
 use Rattle.blaming.proofs.Offsets.{starts-left, starts-right, starts-lengths, starts-field, starts-both}
 use borrow.Author.Needs.{needs}
@@ -38,7 +35,7 @@ returns c = let number = c .before .before .before in
     let refused = number .before in
     let first = refused .before .before in
     let a = first .before .before .before .args in
-    begun-only (starts-left (openedHere (now (a .left))) (openedHere (now (a .right))) (now (a .left)) (now (a .right)) (refused-found (openedHere (now (a .left))) (first .open-plain .ensures) (refused .enum-told .given .1) (number .refusal-number .ensures))) (c .named-line .ensures .0) (c .named-line .ensures .1)
+    begun-only (starts-left (now (a .left)) (now (a .right)) (refused-found (now (a .left)) (first .open-plain .ensures) (refused .enum-told .given .1) (number .refusal-number .ensures))) (c .named-line .ensures .0) (c .named-line .ensures .1)
 
 open-plain-requires-2 : tie.Need-open-plain-requires-2
 open-plain-requires-2 c κs = search needs
@@ -68,7 +65,7 @@ returns-2 c = let number = c .before .before .before in
     let was = second .before .before in
     let first = was .before .before in
     let a = first .before .before .before .args in
-    begun-only (starts-right (openedHere (now (a .left))) (openedHere (now (a .right))) (now (a .left)) (now (a .right)) (column-found (openedHere (now (a .left))) (first .open-plain .ensures) (was .opened .given .1)) (refused-found (openedHere (now (a .right))) (second .open-plain2 .ensures) (refused .enum-told2 .given .1) (number .refusal-number2 .ensures))) (c .named-line2 .ensures .0) (c .named-line2 .ensures .1)
+    begun-only (starts-right (now (a .left)) (now (a .right)) (column-found (now (a .left)) (first .open-plain .ensures) (was .opened .given .1)) (refused-found (now (a .right)) (second .open-plain2 .ensures) (refused .enum-told2 .given .1) (number .refusal-number2 .ensures))) (c .named-line2 .ensures .0) (c .named-line2 .ensures .1)
 
 lengths-line-requires : tie.Need-lengths-line-requires
 lengths-line-requires c κs = search needs
@@ -80,7 +77,7 @@ returns-3 c = let test = c .before .before in
     let was = second .before .before in
     let first = was .before .before in
     let a = first .before .before .before .args in
-    begun-only (starts-lengths (openedHere (now (a .left))) (openedHere (now (a .right))) (now (a .left)) (now (a .right)) (column-found (openedHere (now (a .left))) (first .open-plain .ensures) (was .opened .given .1)) (column-found (openedHere (now (a .right))) (second .open-plain2 .ensures) (is .other .given .1)) (ne-eqb _ _ (test .if1 .taken))) (c .lengths-line .ensures .0) (c .lengths-line .ensures .1)
+    begun-only (starts-lengths (now (a .left)) (now (a .right)) (column-found (now (a .left)) (first .open-plain .ensures) (was .opened .given .1)) (column-found (now (a .right)) (second .open-plain2 .ensures) (is .other .given .1)) (ne-eqb _ _ (test .if1 .taken))) (c .lengths-line .ensures .0) (c .lengths-line .ensures .1)
 
 first-field-requires : tie.Need-first-field-requires
 first-field-requires c κs = search needs
@@ -100,23 +97,13 @@ returns-4 c = let at = c .before .before .before in
     let was = second .before .before in
     let first = was .before .before in
     let a = first .before .before .before .args in
-    begun-only (starts-field (openedHere (now (a .left))) (openedHere (now (a .right))) (now (a .left)) (now (a .right)) (column-found (openedHere (now (a .left))) (first .open-plain .ensures) (was .opened .given .1)) (column-found (openedHere (now (a .right))) (second .open-plain2 .ensures) (is .other .given .1)) (eq-eqb _ _ (test .if1 .left)) (sym (field .first-field .ensures) ∙ at .offset .given .1)) (c .field-line .ensures .0) (c .field-line .ensures .1)
+    begun-only (starts-field (now (a .left)) (now (a .right)) (column-found (now (a .left)) (first .open-plain .ensures) (was .opened .given .1)) (column-found (now (a .right)) (second .open-plain2 .ensures) (is .other .given .1)) (eq-eqb _ _ (test .if1 .left)) (sym (field .first-field .ensures) ∙ at .offset .given .1)) (c .field-line .ensures .0) (c .field-line .ensures .1)
 
 enum-told-3 : tie.Need-enum-told-3
 enum-told-3 c = search needs
 
-fill-requires : tie.Need-fill-requires
-fill-requires c κs = let is = c .before .before .before .before .before .before in
-    let was = is .before .before .before .before in
-    sym (told openedMeaning (was .before .before .open-plain .ensures) (was .opened .given .1))
-
-fill-requires-2 : tie.Need-fill-requires-2
-fill-requires-2 c κs = let is = c .before .before .before .before .before .before .before .before in
-    sym (told openedMeaning (is .before .before .open-plain2 .ensures) (is .other .given .1))
-
 returns-5 : tie.Need-returns-5
-returns-5 c = let left = c .before .before in
-    let none = left .before .before in
+returns-5 c = let none = c in
     let field = none .before .before in
     let test = field .before in
     let is = test .before .before in
@@ -124,9 +111,7 @@ returns-5 c = let left = c .before .before in
     let was = second .before .before in
     let first = was .before .before in
     let a = first .before .before .before .args in
-    let u = column-found (openedHere (now (a .left))) (first .open-plain .ensures) (was .opened .given .1) in
-    let w = column-found (openedHere (now (a .right))) (second .open-plain2 .ensures) (is .other .given .1) in
-    begun-both u w (starts-both (openedHere (now (a .left))) (openedHere (now (a .right))) (now (a .left)) (now (a .right)) u w (eq-eqb _ _ (test .if1 .left)) (sym (field .first-field .ensures) ∙ none .enum-told3 .given .1)) (left .fill .ensures) (c .fill2 .ensures)
+    begun-both (starts-both (now (a .left)) (now (a .right)) (column-found (now (a .left)) (first .open-plain .ensures) (was .opened .given .1)) (column-found (now (a .right)) (second .open-plain2 .ensures) (is .other .given .1)) (eq-eqb _ _ (test .if1 .left)) (sym (field .first-field .ensures) ∙ none .enum-told3 .given .1))
 
 pub begin-spec : {M : Type 1} → statement M
 begin-spec =
@@ -155,6 +140,4 @@ begin-spec =
     field-line-requires
     returns-4
     enum-told-3
-    fill-requires
-    fill-requires-2
     returns-5)

@@ -15,10 +15,10 @@ use Rattle.blaming.proofs.fill_lines.Statement.{statement}
 use Rattle.blaming.proofs.fill_lines.Tie as tie
 
 abbrev Inv-loop : tie.InvT-loop
-Inv-loop left ltable lbytes right rtable rbytes from out₀ i₀ at₀ out i at = Filling (textAt left ltable lbytes right rtable rbytes) blameMax (length lbytes) from out₀ out i at
+Inv-loop left lbytes right rbytes from out₀ i₀ at₀ out i at = Filling (textAt left lbytes right rbytes) blameMax (length lbytes) from out₀ out i at
 
 abbrev μ-loop : tie.MeasureT-loop
-μ-loop left ltable lbytes right rtable rbytes from out₀ i₀ at₀ out i at = length lbytes - i
+μ-loop left lbytes right rbytes from out₀ i₀ at₀ out i at = length lbytes - i
 
 loop-holds : tie.Need-loop-holds Inv-loop μ-loop
 loop-holds c = filling-starts _ _ _ _ _
@@ -28,7 +28,7 @@ sub-if1 c = omega (arith, c .before .loop .inv .room, c .before .loop .inv .kept
 
 put-offset-requires : tie.Need-put-offset-requires Inv-loop μ-loop
 put-offset-requires c κs = let l = c .before .before .before in
-    omega (arith, c .before .if1 .left, l .loop .inv .room, l .loop .inv .kept)
+    (l .before .before .before .before .pre, omega (arith, c .before .if1 .left, l .loop .inv .room, l .loop .inv .kept))
 
 add-i : tie.Need-add-i Inv-loop μ-loop
 add-i c = omega arith
@@ -42,16 +42,16 @@ loop-again c = let put = c .before .before in
     let turn = test .before in
     filling-more (turn .before .loop .inv) (turn .loop-test .taken) (omega (arith, test .if1 .left)) (put .put-offset .ensures .0) (put .put-offset .ensures .1)
 
-sub-t16 : tie.Need-sub-t16 Inv-loop μ-loop
-sub-t16 c = omega (arith, c .before .loop .inv .start)
+sub-t14 : tie.Need-sub-t14 Inv-loop μ-loop
+sub-t14 c = omega (arith, c .before .loop .inv .start)
 
 same-length : tie.Need-same-length Inv-loop μ-loop
 same-length c = c .before .loop .inv .kept
 
 -- the loop is left where no offset is left, or no room
 none-left : (c : tie.Left-loop Inv-loop μ-loop) →
-    let a = c .before .before .before .before .before .before .before .args in
-    chunkRows (textAt (a .left) (now (a .ltable)) (now (a .lbytes)) (a .right) (now (a .rtable)) (now (a .rbytes))) blameMax (length (now (a .lbytes))) (length (a .out .now) - c .before .loop .at) (c .before .loop .i) ≡ 0
+    let a = c .before .before .before .before .before .args in
+    chunkRows (textAt (a .left) (now (a .lbytes)) (a .right) (now (a .rbytes))) blameMax (length (now (a .lbytes))) (length (a .out .now) - c .before .loop .at) (c .before .loop .i) ≡ 0
 none-left c = ⊎-elim (λ w. chunk-none _ _ _ _ _ (w .left)) (λ w. chunk-full _ _ _ _ _ (omega (arith, w .1 .taken, c .before .loop .inv .kept))) (c .loop-test .came)
 
 returns : tie.Need-returns Inv-loop μ-loop
@@ -72,6 +72,6 @@ fill-lines-spec =
     add-i
     loop-less
     loop-again
-    sub-t16
+    sub-t14
     same-length
     returns)

@@ -1,11 +1,12 @@
 -- `column_c::hulemartob_narrow` meets its contract: the twelve numbers are no column, or the window is narrowed as that column's is.
 -- Assumes nothing.
-use mathlib.Core.Path.{_≡_, sym, ap, _∙_}
+use mathlib.Core.Path.{sym, ap, _∙_}
 use Rattle.format.specs.declared.Column.{Column}
 use Rattle.format.specs.Outcome.{Outcome}
 use Rattle.format.specs.Refusals.{narrowedMeaning}
 use Rattle.format.specs.Windows.{narrowed}
-use Rattle.column_c.proofs.Answering.{through, stopped, narrowed-column, not-narrowed}
+use Rattle.plain.proofs.Answering.{through, stopped}
+use Rattle.column_c.proofs.Answering.{narrowed-column, not-narrowed}
 use borrow.Author.Needs.{needs}
 use Rattle.column_c.proofs.hulemartob_narrow.Statement.{statement}
 use Rattle.column_c.proofs.hulemartob_narrow.Tie as tie

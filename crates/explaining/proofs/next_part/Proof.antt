@@ -1,7 +1,7 @@
 -- `explaining::next_part` meets its contract: the name's part, and the place behind it; there are few enough names to count.
 -- Assumes nothing.
 use Rattle.format.specs.Parts.{names}
-use mathlib.Core.Path.{_≡_, refl, sym, ap, _∙_}
+use mathlib.Core.Path.{sym, ap}
 use Prim.Native.Nat.{_^_, _<_}
 use native.Mathlib.Omega.{arith}
 use denote.Ref.{now}

@@ -1,6 +1,6 @@
 -- `explaining::seek` meets its contract: by the invariant `Seeking`: what is left of the parts holds the offset, if any part does.
 -- Assumes nothing.
-use mathlib.Core.Path.{_≡_, refl, sym, ap, _∙_}
+use mathlib.Core.Path.{refl, sym, ap, _∙_}
 use Prim.Native.Nat.{_-_}
 use lib.ListN.{length}
 use denote.Ref.{now}

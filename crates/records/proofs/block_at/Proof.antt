@@ -9,11 +9,10 @@ use denote.Struct.Laws as LL
 use Rattle.walking.proofs.Data.{vals, typed}
 use Rattle.records.proofs.Types as Ty
 use Rattle.records.proofs.Types.{place-fits, place-block}
-use Rattle.records.proofs.Tables.{held}
 use Rattle.format.proofs.Block as B
 use Rattle.format.proofs.Block.Laws as B′
 use Rattle.format.specs.declared.Block.{Block}
-use Rattle.records.specs.Records.{noBlock}
+use Rattle.format.specs.Reading.{noBlock}
 use Rattle.records.proofs.no_block as zero
 use Rattle.records.proofs.no_block.Symbol as zero-def
 use Rattle.records.proofs.no_block.Symbol.{name as #records·no-block}
@@ -51,7 +50,7 @@ module _ {M : Type 1} (𝓤 : URA M) (H : Heap 𝓤) (A : Atoms 𝓤) (W : Given
   exits : (v : Val) → Is (Ty.block .row) found (v ∷ []) → ent 𝓤 (⋆ 𝓤 H A ((‵ (flft κ q) ⊛ ‵ ftrue) ∷ ‵ (owns (ShrSlice (named 0) κ (Ty.block .row) ∷ usize ∷ []) x at) ∷ [])) (Post v)
   exits v is =
       qed W ((‵ (flft κ q) ⊛ ‵ ftrue) ∷ ‵ (owns (ShrSlice (named 0) κ (Ty.block .row) ∷ usize ∷ []) x at) ∷ []) ∵
-      suffices ! _ (ends-at 𝓤 H A f.ended stayed (f.clauses 𝓤 H A mem run) W (((κ, tt), (q, tt), tt, x, at), tt) v found (tt, (tt, tt)) (tt, (tt, tt))) $ says ! (sym (held ys k)) $
+      suffices ! _ (ends-at 𝓤 H A f.ended stayed (f.clauses 𝓤 H A mem run) W (((κ, tt), (q, tt), tt, x, at), tt) v found (tt, (tt, tt)) (tt, (tt, tt))) $ says ! refl $
       frame ! $ frame ! $ owned ! (Ty.block .row) (Is (Ty.block .row)) (LL.makes B.the-type B′.the-plain 𝓤 H A) found (v ∷ []) is $ done !
 
   module _ (C : Calls 𝓤 H) (Λ : Loops 𝓤 H) (fm : FmC 𝓤 H (W .laws) C) (known : Triple 𝓤 (C #records·no-block) (Zero 𝓤 H A mem run)) where

@@ -15,11 +15,10 @@ use Rattle.walking.proofs.Data.{vals, Fits, number, have, typed, spelled, fits}
 use Rattle.format.specs.declared.Block.{Block}
 use Rattle.format.specs.declared.Column.{Column}
 use Rattle.format.specs.Reading.{columnRow, blockAt, rowIn, rowAt}
-use Rattle.reading.specs.declared.taking.Stretch.{Stretch}
+use Rattle.chunks.specs.declared.taking.Stretch.{Stretch}
 use Rattle.reading.specs.Chunks.{chunkSize}
-use Rattle.reading.specs.Stretch.{StretchAs}
-use Rattle.reading.proofs.taking.Stretch.Laws as T′
-use Rattle.records.specs.Records.{numbersOf}
+use Rattle.chunks.specs.Stretch.{StretchAs}
+use Rattle.chunks.proofs.taking.Stretch.Laws as T′
 use Rattle.records.proofs.Types as Ty
 use Rattle.records.proofs.Tables.{by-chunk}
 use Rattle.records.proofs.block_from as of
@@ -30,10 +29,10 @@ use Rattle.records.proofs.block_at as at′
 use Rattle.records.proofs.block_at.Symbol as at-def
 use Rattle.records.proofs.block_at.Symbol.{name as #records·block-at}
 use Rattle.records.proofs.block_at.Met as at-thm
-use Rattle.reading.proofs.taking.take as tk
-use Rattle.reading.proofs.taking.take.Symbol as tk-def
-use Rattle.reading.proofs.taking.take.Symbol.{name as #reading·taking·take}
-use Rattle.reading.proofs.taking.take.Met as tk-thm
+use Rattle.chunks.proofs.taking.take as tk
+use Rattle.chunks.proofs.taking.take.Symbol as tk-def
+use Rattle.chunks.proofs.taking.take.Symbol.{name as #chunks·taking·take}
+use Rattle.chunks.proofs.taking.take.Met as tk-thm
 use Rattle.records.proofs.chunk.Key.{name as #records·chunk}
 use Rattle.records.proofs.chunk as f
 use Rattle.records.proofs.chunk.Statement as stated
@@ -106,7 +105,7 @@ module _ {M : Type 1} (𝓤 : URA M) (H : Heap 𝓤) (A : Atoms 𝓤) (W : Given
   abbrev Tokens : Item 𝓤
   Tokens = ‵ (flft κ₁ q₁) ⊛ (‵ (flft κ₂ q₂) ⊛ ‵ ftrue)
 
-  exits : (r : Stretch) (zs : List ℕ) → StretchAs (rowAt c (numbersOf (table .now)) (bytes .now)) start (chunkSize (columnRow c start) (c .window .rows - start)) r (out .now) zs → Fits Ty.stretch r → Fits Ty.column c → start < 2 ^ 32
+  exits : (r : Stretch) (zs : List ℕ) → StretchAs (rowAt c (table .now) (bytes .now)) start (chunkSize (columnRow c start) (c .window .rows - start)) r (out .now) zs → Fits Ty.stretch r → Fits Ty.column c → start < 2 ^ 32
       → ent 𝓤 (⋆ 𝓤 H A (Token ∷ Tokens ∷ ‵ Blocks ∷ ‵ Bytes ∷ ‵ (Last zs) ∷ [])) (Post (Ty.stretch .val r))
   exits r zs e is cis start-fits =
       qed W (Token ∷ Tokens ∷ ‵ Blocks ∷ ‵ Bytes ∷ ‵ (Last zs) ∷ []) ∵
@@ -122,7 +121,7 @@ module _ {M : Type 1} (𝓤 : URA M) (H : Heap 𝓤) (A : Atoms 𝓤) (W : Given
   abbrev Says : Block → Stretch → List ℕ → Type 0
   Says d r zs = StretchAs (rowIn c n d (bytes .now)) start (chunkSize (columnRow c start) (c .window .rows - start)) r (out .now) zs
 
-  module _ (C : Calls 𝓤 H) (Λ : Loops 𝓤 H) (fm : FmC 𝓤 H (W .laws) C) (known-of : Triple 𝓤 (C #records·block-from) (Of 𝓤 H A mem run)) (known-at : Triple 𝓤 (C #records·block-at) (At 𝓤 H A mem run)) (known-take : Triple 𝓤 (C #reading·taking·take) (Take 𝓤 H A mem run)) where
+  module _ (C : Calls 𝓤 H) (Λ : Loops 𝓤 H) (fm : FmC 𝓤 H (W .laws) C) (known-of : Triple 𝓤 (C #records·block-from) (Of 𝓤 H A mem run)) (known-at : Triple 𝓤 (C #records·block-at) (At 𝓤 H A mem run)) (known-take : Triple 𝓤 (C #chunks·taking·take) (Take 𝓤 H A mem run)) where
     walk : Fits Ty.column c → n < 2 ^ 64 → length (bytes .now) < 2 ^ 64 → start < 2 ^ 32
         → ent 𝓤 (onEntry 𝓤 H A f.signature (κ, (κ₁, (κ₂, tt))) (q, (q₁, (q₂, tt))) x at) (WpFn 𝓤 H C Λ code.function (Ty.column .val c ∷ tv ∷ bv ∷ vint w32 start ∷ ov ∷ []) Post)
     walk cis n-fits b-fits start-fits =
@@ -140,7 +139,7 @@ module _ {M : Type 1} (𝓤 : URA M) (H : Heap 𝓤) (A : Atoms 𝓤) (W : Given
         (and-then ! (load ! (from ! (stop !)) (look ! 22 refl)) (and-then ! (load ! (from ! (stop !)) (look ! 16 refl)) (no-more !))) (λ k ke kis. drop ! $ land ! (from ! (stop !)) (init ! 9 refl (typed W (number w64) k _ kis .0)) $
         -- the table is copied, and goes to `block_at`
         move ! (4 ∷ []) $ use1 W (‵ Blocks ⊛ ‵ Blocks) (shr-slice-copy 𝓤 H A W (named 0) κ (Ty.block .row) .twice table (tv ∷ [])) $ split ! $ nothing ! $ have ! (number w64) k kis $ fjoin ! $ move ! (1 ∷ 0 ∷ []) $ fjoin ! $ move ! (2 ∷ 0 ∷ []) $
-        calls-plain ! fm at′.ended (at′.clauses 𝓤 H A mem run) known-at ((κ, tt), (q, tt), tt, (table, (k, tt)), (tv ∷ [], (vint w64 k ∷ [], tt))) tt (id⊢ 𝓤 _) (λ r. r ≡ blockAt (numbersOf (table .now)) k) (λ r e. id⊢ 𝓤 _) (Ty.block .val) (Ty.block .tells)
+        calls-plain ! fm at′.ended (at′.clauses 𝓤 H A mem run) known-at ((κ, tt), (q, tt), tt, (table, (k, tt)), (tv ∷ [], (vint w64 k ∷ [], tt))) tt (id⊢ 𝓤 _) (λ r. r ≡ blockAt (table .now) k) (λ r e. id⊢ 𝓤 _) (Ty.block .val) (Ty.block .tells)
         (and-then ! (load ! (from ! (stop !)) (look ! 19 refl)) (and-then ! (load ! (from ! (stop !)) (look ! 9 refl)) (no-more !))) (λ d de dis. land ! (from ! (stop !)) (init ! 7 refl (typed W Ty.block d _ dis .0)) $
         assigns ! (addr ! (from ! (hop ! (look ! 13 refl) (stop !)))) (from ! (stop !)) (init ! 5 refl (tt, tt)) $
         -- the bytes are copied, and go to `take` with the list
@@ -157,7 +156,7 @@ module _ {M : Type 1} (𝓤 : URA M) (H : Heap 𝓤) (A : Atoms 𝓤) (W : Given
         by ! (exits r (zs .1 .1 .1 .1 .1 .0) (by-chunk c (Ty.column-rows c cis) (table .now) (bytes .now) start (c .window .rows - start) ke de e) (fits Ty.stretch r u is) cis start-fits))))))))))))))))))
 
 module _ {M : Type 1} (𝓤 : URA M) (H : Heap 𝓤) (A : Atoms 𝓤) (W : Given 𝓤 H A) (mem : Memory → SProp 𝓤) (run : Routine → Fun 𝓤) where
-  walks : (𝓣 : Tables 𝓤 H) → Triple 𝓤 (𝓣 .C #records·block-from) (Of 𝓤 H A mem run) → Triple 𝓤 (𝓣 .C #records·block-at) (At 𝓤 H A mem run) → Triple 𝓤 (𝓣 .C #reading·taking·take) (Take 𝓤 H A mem run)
+  walks : (𝓣 : Tables 𝓤 H) → Triple 𝓤 (𝓣 .C #records·block-from) (Of 𝓤 H A mem run) → Triple 𝓤 (𝓣 .C #records·block-at) (At 𝓤 H A mem run) → Triple 𝓤 (𝓣 .C #chunks·taking·take) (Take 𝓤 H A mem run)
       → Walks 𝓤 H A f.ended stayed (WpFn 𝓤 H (𝓣 .C) (𝓣 .Λ) code.function) (f.clauses 𝓤 H A mem run)
   walks 𝓣 a₁ a₂ a₃ = walked 𝓤 H A f.ended stayed (f.clauses 𝓤 H A mem run) (WpFn 𝓤 H (𝓣 .C) (𝓣 .Λ) code.function) (λ κs. (vals Ty.column, (slice-vals, (slice-vals, (uint-vals w32, (ptr-vals, tt))))))
       (λ κs. (Ty.column .tells, (shr-slice-tells (named 0) (κs .0) (Ty.block .row), (shr-slice-tells (named 1) (κs .1 .0) u8, (uint-tells w32, (mut-tells (named 2) (κs .1 .1 .0) (List512 .row κs), tt))))))
@@ -173,4 +172,4 @@ chunk-spec 𝓤 H 𝓜 𝓖 𝓡 =
     (f.clauses 𝓤 H (𝓖 .A) (𝓜 .mem) (𝓡 .run)) (WpFn 𝓤 H (𝓣 .C) (𝓣 .Λ) code.function) (WpFn-mono 𝓤 H (W .laws) 𝓣 code.function) (walks 𝓤 H (𝓖 .A) W (𝓜 .mem) (𝓡 .run) 𝓣
     (cited 𝓤 H (Of 𝓤 H (𝓖 .A) (𝓜 .mem) (𝓡 .run)) 𝓜 𝓡 code.env #records·block-from of-def.routine code.calls-records·block-from (of-thm.met 𝓤 H 𝓜 𝓖 𝓡))
     (cited 𝓤 H (At 𝓤 H (𝓖 .A) (𝓜 .mem) (𝓡 .run)) 𝓜 𝓡 code.env #records·block-at at-def.routine code.calls-records·block-at (at-thm.met 𝓤 H 𝓜 𝓖 𝓡))
-    (cited 𝓤 H (Take 𝓤 H (𝓖 .A) (𝓜 .mem) (𝓡 .run)) 𝓜 𝓡 code.env #reading·taking·take tk-def.routine code.calls-reading·taking·take (tk-thm.met 𝓤 H 𝓜 𝓖 𝓡))))
+    (cited 𝓤 H (Take 𝓤 H (𝓖 .A) (𝓜 .mem) (𝓡 .run)) 𝓜 𝓡 code.env #chunks·taking·take tk-def.routine code.calls-chunks·taking·take (tk-thm.met 𝓤 H 𝓜 𝓖 𝓡))))

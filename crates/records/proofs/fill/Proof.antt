@@ -12,10 +12,10 @@ use Rattle.walking.proofs.Data.{vals, number, have, typed, fits}
 use Rattle.walking.proofs.Tested.{tested}
 use Rattle.format.specs.declared.Block.{Block}
 use Rattle.format.specs.Outcome.{Outcome.value, stored}
-use Rattle.blockwise_linear.specs.Reader.{firstCursor, stepIn, blocksFrom, numbersIn, Small, Good, Fillable}
+use Rattle.blockwise_linear.specs.Reader.{firstCursor, stepIn, blocksFrom, listed, Small, Good, Fillable}
 use Rattle.blockwise_linear.proofs.reader.Cursor.Laws as K′
 use Rattle.blockwise_linear.proofs.reader.Step.Laws as S′
-use Rattle.records.specs.Records.{noBlock, numbersOf}
+use Rattle.format.specs.Reading.{noBlock}
 use Rattle.records.proofs.Types as Ty
 use Rattle.records.proofs.Filling as F
 use Rattle.blockwise_linear.proofs.reader.first as fi
@@ -91,7 +91,7 @@ module _ {M : Type 1} (𝓤 : URA M) (H : Heap 𝓤) (A : Atoms 𝓤) (W : Given
   abbrev Seen : List Block → List (Item 𝓤) → List (Item 𝓤)
   Seen zs Γ = ‵ (fobs γ (codedHoleys (Ty.block .row) .code (heres (Ty.block .row) zs))) ∷ ‵ (fbor κ₁ (Held (Ty.block .row) (length zs) b o γ)) ∷ ‵ (flft κ₁ q₁) ∷ Token ∷ ‵ Bytes ∷ Γ
 
-  exits : (zs : List Block) → length zs ≡ length ys → numbersOf zs ≡ stored (numbersIn (blocksFrom (bytes .now) (firstCursor (bytes .now) rows))) (numbersOf ys)
+  exits : (zs : List Block) → length zs ≡ length ys → zs ≡ stored (listed (blocksFrom (bytes .now) (firstCursor (bytes .now) rows))) ys
       → ent 𝓤 (⋆ 𝓤 H A (Seen zs [])) (Post vunit)
   exits zs long e =
       qed W (Seen zs []) ∵
@@ -186,7 +186,7 @@ module _ {M : Type 1} (𝓤 : URA M) (H : Heap 𝓤) (A : Atoms 𝓤) (W : Given
     looped t = first ! $ blocks ! $ loops ! 𝓣 (F._≺_ ys (bytes .now) rows) (F.wf ys (bytes .now) rows) I (λ u. tested (ltb 0 (u .c .left)) (more u) (ends u)) t
 
   -- the MIR, up to the loop
-  walk : (𝓣 : Tables 𝓤 H) → Triple 𝓤 (𝓣 .C #blockwise-linear·reader·first) (First 𝓤 H A mem run) → Triple 𝓤 (𝓣 .C #blockwise-linear·reader·next-block) (Next 𝓤 H A mem run) → Fillable (bytes .now) rows (4 * length ys)
+  walk : (𝓣 : Tables 𝓤 H) → Triple 𝓤 (𝓣 .C #blockwise-linear·reader·first) (First 𝓤 H A mem run) → Triple 𝓤 (𝓣 .C #blockwise-linear·reader·next-block) (Next 𝓤 H A mem run) → Fillable (bytes .now) rows (length ys)
       → ent 𝓤 (onEntry 𝓤 H A f.signature (κ, (κ₁, tt)) (q, (q₁, tt)) x at) (WpFn 𝓤 H (𝓣 .C) (𝓣 .Λ) code.function (bv ∷ vint w32 rows ∷ tv ∷ []) Post)
   walk 𝓣 known-first known-next fillable =
       qed W ((‵ (flft κ q) ⊛ (‵ (flft κ₁ q₁) ⊛ ‵ ftrue)) ∷ ‵ (owns (ShrSlice (named 0) κ u8 ∷ u32 ∷ MutSlice (named 1) κ₁ (Ty.block .row) ∷ []) x at) ∷ []) ∵

@@ -11,7 +11,6 @@ use Rattle.format.specs.declared.Opened.{Opened}
 use Rattle.format.specs.Opening.{opened}
 use Rattle.format.specs.Sheets.{openedUnder}
 use Rattle.format.specs.Calls.{OpenedAs}
-use Rattle.records.specs.Records.{numbersOf}
 use Rattle.records.proofs.Types as Ty
 use Rattle.records.proofs.Opening.{first-sheet}
 use Rattle.format.proofs.Opened.Laws as O′
@@ -61,7 +60,7 @@ module _ {M : Type 1} (𝓤 : URA M) (H : Heap 𝓤) (A : Atoms 𝓤) (W : Given
   abbrev Bytes : Fml
   Bytes = ShrSlice (named 0) κ u8 .own bytes (bv ∷ [])
 
-  exits : (p : Opened) (zs : List Block) → OpenedAs (opened (bytes .now) m) p (numbersOf (table .now)) (numbersOf zs) → length zs ≡ m → Fits Ty.opened p
+  exits : (p : Opened) (zs : List Block) → OpenedAs (opened (bytes .now) m) p (table .now) zs → length zs ≡ m → Fits Ty.opened p
       → ent 𝓤 (⋆ 𝓤 H A ((‵ (flft κ q) ⊛ (‵ (flft κ₁ q₁) ⊛ ‵ ftrue)) ∷ ‵ (finally (Ty.block .row) (table .name) zs) ∷ ‵ Bytes ∷ [])) (Post (Ty.opened .val p))
   exits p zs e long is =
       qed W ((‵ (flft κ q) ⊛ (‵ (flft κ₁ q₁) ⊛ ‵ ftrue)) ∷ ‵ (finally (Ty.block .row) (table .name) zs) ∷ ‵ Bytes ∷ []) ∵
@@ -74,7 +73,7 @@ module _ {M : Type 1} (𝓤 : URA M) (H : Heap 𝓤) (A : Atoms 𝓤) (W : Given
 
   -- what it says
   abbrev Says : Opened → List Block → Type 0
-  Says p zs = OpenedAs (openedUnder 1 (bytes .now) m) p (numbersOf (table .now)) (numbersOf zs)
+  Says p zs = OpenedAs (openedUnder 1 (bytes .now) m) p (table .now) zs
 
   module _ (C : Calls 𝓤 H) (Λ : Loops 𝓤 H) (fm : FmC 𝓤 H (W .laws) C) (known : Triple 𝓤 (C #records·open-under) (Under 𝓤 H A mem run)) where
     walk : length (bytes .now) < 2 ^ 64 → m < 2 ^ 64 → ent 𝓤 (onEntry 𝓤 H A f.signature (κ, (κ₁, tt)) (q, (q₁, tt)) x at) (WpFn 𝓤 H C Λ code.function (bv ∷ tv ∷ []) Post)
@@ -95,7 +94,7 @@ module _ {M : Type 1} (𝓤 : URA M) (H : Heap 𝓤) (A : Atoms 𝓤) (W : Given
         land ! (from ! (stop !)) (init ! 11 refl (typed W Ty.opened r _ is .0)) $ rewrite ! 11 (λ (v : Val). ‵ (fat fullShare O′.mir l₀ 0 v)) (spelled Ty.opened r u is) refl $
         returns ! (look ! 11 refl) $ forget ! 3 refl $ forget ! 5 refl $ forget ! 7 refl $ forget ! 9 refl $ forget ! 11 refl $
         move ! (11 ∷ 12 ∷ []) $ free1 ! $ move ! (9 ∷ 10 ∷ []) $ free1 ! $ move ! (7 ∷ 8 ∷ []) $ free1 ! $ move ! (5 ∷ 6 ∷ []) $ free1 ! $ move ! (3 ∷ 4 ∷ []) $ free1 ! $ free0 ! $
-        by ! (exits r (zs .1 .1 .0) (first-sheet (bytes .now) m r (numbersOf (table .now)) (numbersOf (zs .1 .1 .0)) e) long (fits Ty.opened r u is)))))))))))))
+        by ! (exits r (zs .1 .1 .0) (first-sheet (bytes .now) m r (table .now) (zs .1 .1 .0) e) long (fits Ty.opened r u is)))))))))))))
 
 module _ {M : Type 1} (𝓤 : URA M) (H : Heap 𝓤) (A : Atoms 𝓤) (W : Given 𝓤 H A) (mem : Memory → SProp 𝓤) (run : Routine → Fun 𝓤) where
   walks : (𝓣 : Tables 𝓤 H) → Triple 𝓤 (𝓣 .C #records·open-under) (Under 𝓤 H A mem run) → Walks 𝓤 H A f.ended stayed (WpFn 𝓤 H (𝓣 .C) (𝓣 .Λ) code.function) (f.clauses 𝓤 H A mem run)

@@ -1,8 +1,8 @@
 -- `records::open_under` meets its contract: a walk of its MIR, by hand. Three calls, no branch: `open_plain_under` decides, and `fill` is given the table for good, with no rows to fill in where opening refuses.
 -- Assumes nothing.
-use Rattle.walking.proofs.Walk.{_≡_, refl, ℕ, _*_, _<_, _^_, List, [], _∷_, length, URA, Ty, named, w32, w64, Val, vint, SProp, ent, emp, via, fst∗, id⊢, Lft, Share, Fml, ftrue, flft}
+use Rattle.walking.proofs.Walk.{_≡_, refl, ℕ, _<_, _^_, List, [], _∷_, length, URA, Ty, named, w32, w64, Val, vint, SProp, ent, emp, via, fst∗, id⊢, Lft, Share, Fml, ftrue, flft}
 use Rattle.walking.proofs.Walk.{Memory, Routine, Heap, Calls, Loops, WpFn, Tables, Atoms, Fun, fact, factI, givenOf, tables, tablesOf}
-use Rattle.walking.proofs.Walk.{Given, Item, ‵, raw, _⊛_, ⋆, some, later, _$_, _∵_, !, qed, by, move, drop, use0, use1, split, join, pick, await, fsplit, fjoin, feqL, suffices, frame, done, whole, sub, look-in, agg, addr, look, init, forget, stop, hop, fld, from, load, of-opd, and-then, no-more, assigns, land, blocks, returns, enter, alloc1, alloc0, params1, pass1, pass0, free1, free0, FmC, fmOf, WpFn-mono}
+use Rattle.walking.proofs.Walk.{Given, Item, ‵, raw, _⊛_, ⋆, some, later, _$_, _∵_, !, qed, by, move, drop, use0, use1, split, join, pick, await, fsplit, fjoin, feqL, suffices, frame, done, whole, sub, look-in, agg, addr, look, init, forget, stop, hop, fld, from, load, of-opd, and-then, no-more, assigns, land, returns, enter, alloc1, alloc0, params1, pass1, pass0, free1, free0, FmC, fmOf, WpFn-mono}
 use Rattle.walking.proofs.Walk.{owns, Is, shows, uint-vals, uint-tells, u8, u32, unit, nothing-lawful, RefT, sliceVal, ShrSlice, MutSlice, slice-vals, shr-slice-tells, shr-slice-copy, mut-slice-tells, finally, plain, nothing, heard, facts, Contract, Triple, calls-at, alive, onEntry, tripleOf, entered, cited, ensured, lasts, says, Stays, stay-none, stay-none-slice, gave-slice, walkOf, goes-none, goes-none-slice, goes-gave-slice, Walks, ends-at, walked, walk-meets, yes}
 use Rattle.walking.proofs.Calls.{calls-plain}
 use Rattle.walking.proofs.Data.{vals, Fits, number, have, typed, fits}
@@ -13,9 +13,8 @@ use Rattle.format.specs.Refusals.{openedMeaning}
 use Rattle.format.specs.Opening.{columnIn}
 use Rattle.format.specs.Sheets.{openedUnder}
 use Rattle.format.specs.Calls.{OpenedAs}
-use Rattle.blockwise_linear.specs.Reader.{firstCursor, blocksFrom, numbersIn, Fillable}
+use Rattle.blockwise_linear.specs.Reader.{firstCursor, blocksFrom, listed, Fillable}
 use Rattle.u64_based.specs.Opening.{tabled}
-use Rattle.records.specs.Records.{numbersOf}
 use Rattle.records.proofs.Types as Ty
 use Rattle.records.proofs.Opening.{fillable, opens}
 use Rattle.u64_based.proofs.open_plain_under as pl
@@ -81,7 +80,7 @@ module _ {M : Type 1} (𝓤 : URA M) (H : Heap 𝓤) (A : Atoms 𝓤) (W : Given
   abbrev Token : Item 𝓤
   Token = raw (alive 𝓤 H A pl.signature (κ, tt) (q, tt))
 
-  exits : (p : Opened) (zs : List Block) → OpenedAs (openedUnder sheet (bytes .now) m) p (numbersOf (table .now)) (numbersOf zs) → length zs ≡ m → Fits Ty.opened p
+  exits : (p : Opened) (zs : List Block) → OpenedAs (openedUnder sheet (bytes .now) m) p (table .now) zs → length zs ≡ m → Fits Ty.opened p
       → ent 𝓤 (⋆ 𝓤 H A ((‵ (flft κ q) ⊛ (‵ (flft κ₁ q₁) ⊛ ‵ ftrue)) ∷ ‵ (finally (Ty.block .row) (table .name) zs) ∷ ‵ Bytes ∷ [])) (Post (Ty.opened .val p))
   exits p zs e long is =
       qed W ((‵ (flft κ q) ⊛ (‵ (flft κ₁ q₁) ⊛ ‵ ftrue)) ∷ ‵ (finally (Ty.block .row) (table .name) zs) ∷ ‵ Bytes ∷ []) ∵
@@ -94,7 +93,7 @@ module _ {M : Type 1} (𝓤 : URA M) (H : Heap 𝓤) (A : Atoms 𝓤) (W : Given
 
   -- what it says
   abbrev Filled : ℕ → List Block → Type 0
-  Filled rows zs = numbersOf zs ≡ stored (numbersIn (blocksFrom (bytes .now) (firstCursor (bytes .now) rows))) (numbersOf (table .now))
+  Filled rows zs = zs ≡ stored (listed (blocksFrom (bytes .now) (firstCursor (bytes .now) rows))) (table .now)
 
   module _ (C : Calls 𝓤 H) (Λ : Loops 𝓤 H) (fm : FmC 𝓤 H (W .laws) C) (known-plain : Triple 𝓤 (C #u64-based·open-plain-under) (Plain 𝓤 H A mem run)) (known-rows : Triple 𝓤 (C #u64-based·opening·table-rows) (Rows 𝓤 H A mem run)) (known-fill : Triple 𝓤 (C #records·fill) (Fill 𝓤 H A mem run)) where
     walk : length (bytes .now) < 2 ^ 64 → m < 2 ^ 64 → ent 𝓤 (onEntry 𝓤 H A f.signature (κ, (κ₁, tt)) (q, (q₁, tt)) x at) (WpFn 𝓤 H C Λ code.function (vint w32 sheet ∷ bv ∷ tv ∷ []) Post)
@@ -117,7 +116,7 @@ module _ {M : Type 1} (𝓤 : URA M) (H : Heap 𝓤) (A : Atoms 𝓤) (W : Given
         assigns ! (addr ! (from ! (fld ! refl (hop ! (look-in ! 16 (sub ! 0 refl (whole !))) (stop !))))) (from ! (stop !)) (init ! 6 refl (tt, tt)) $
         assigns ! (agg ! (and-then ! (load ! (from ! (stop !)) (look ! 6 refl)) (and-then ! (load ! (from ! (fld ! refl (stop !))) (look-in ! 16 (sub ! 1 refl (whole !)))) (no-more !)))) (from ! (stop !)) (init ! 4 refl (tt, (tt, (record { fits = t-fits }, tt)))) $
         move ! (1 ∷ []) $ use1 W (‵ Bytes ⊛ ‵ Bytes) (shr-slice-copy 𝓤 H A W (named 0) κ u8 .twice bytes (bv ∷ [])) $ split ! $ nothing ! $ move ! (5 ∷ 0 ∷ []) $ fjoin ! $ have ! (number w32) rows ris $ fjoin ! $ move ! (1 ∷ 0 ∷ []) $ fjoin ! $
-        move ! (2 ∷ []) $ use1 W (‵ (flft κ q) ⊛ ‵ ftrue) (id⊢ 𝓤 _) $ split ! $ move ! (4 ∷ 1 ∷ []) $ join ! $ move ! (1 ∷ 0 ∷ []) $ join ! $ join ! $ use0 W (raw (fact 𝓤 (Fillable (bytes .now) rows (4 * m)))) (factI 𝓤 (Fillable (bytes .now) rows (4 * m)) (emp 𝓤) (fillable sheet (bytes .now) m p pe rows re)) $ move ! (1 ∷ 0 ∷ []) $ join ! $ use1 W (raw (Fill 𝓤 H A mem run .pre (to rows))) (id⊢ 𝓤 _) $
+        move ! (2 ∷ []) $ use1 W (‵ (flft κ q) ⊛ ‵ ftrue) (id⊢ 𝓤 _) $ split ! $ move ! (4 ∷ 1 ∷ []) $ join ! $ move ! (1 ∷ 0 ∷ []) $ join ! $ join ! $ use0 W (raw (fact 𝓤 (Fillable (bytes .now) rows m))) (factI 𝓤 (Fillable (bytes .now) rows m) (emp 𝓤) (fillable sheet (bytes .now) m p pe rows re)) $ move ! (1 ∷ 0 ∷ []) $ join ! $ use1 W (raw (Fill 𝓤 H A mem run .pre (to rows))) (id⊢ 𝓤 _) $
         calls-at ! fm (Fill 𝓤 H A mem run) known-fill (to rows) (and-then ! (load ! (from ! (stop !)) (look ! 16 refl)) (and-then ! (load ! (from ! (stop !)) (look ! 8 refl)) (and-then ! (load ! (from ! (stop !)) (look ! 2 refl)) (no-more !)))) (λ u.
         use1 W (later (some (λ (r : Unit {0}). ((‵ (flft κ q) ⊛ (‵ (flft κ₁ q₁) ⊛ ‵ ftrue)) ⊛ ‵ (unit .own r (u ∷ []))) ⊛ raw (ensured 𝓤 H A fl.ended (fl.clauses 𝓤 H A mem run) (κ, (κ₁, tt)) (bytes, (rows, (table, tt))) tt r)))) (id⊢ 𝓤 _) $ await ! tt $ pick ! (λ r.
         split ! $ move ! (1 ∷ []) $ use1 W (some (λ (zs : Unit {0} × (Unit {0} × (List Block × Unit {0}))). ‵ (lasts fl.ended (κ, (κ₁, tt)) (bytes, (rows, (table, tt))) zs) ⊛ raw (fact 𝓤 (Filled rows (zs .1 .1 .0))))) (id⊢ 𝓤 _) $ pick ! (λ zs.
@@ -126,7 +125,7 @@ module _ {M : Type 1} (𝓤 : URA M) (H : Heap 𝓤) (A : Atoms 𝓤) (W : Given
         assigns ! (of-opd ! (load ! (from ! (stop !)) (look ! 11 refl))) (from ! (stop !)) (init ! 21 refl (typed W Ty.opened p _ pis .0)) $
         returns ! (look ! 21 refl) $ forget ! 3 refl $ forget ! 5 refl $ forget ! 7 refl $ forget ! 9 refl $ forget ! 11 refl $ forget ! 13 refl $ forget ! 15 refl $ forget ! 17 refl $ forget ! 19 refl $ forget ! 21 refl $
         move ! (21 ∷ 22 ∷ []) $ free1 ! $ move ! (19 ∷ 20 ∷ []) $ free1 ! $ move ! (17 ∷ 18 ∷ []) $ free1 ! $ move ! (15 ∷ 16 ∷ []) $ free1 ! $ move ! (13 ∷ 14 ∷ []) $ free1 ! $ move ! (11 ∷ 12 ∷ []) $ free1 ! $ move ! (9 ∷ 10 ∷ []) $ free1 ! $ move ! (7 ∷ 8 ∷ []) $ free1 ! $ move ! (5 ∷ 6 ∷ []) $ free1 ! $ move ! (3 ∷ 4 ∷ []) $ free1 ! $ free0 ! $
-        by ! (exits p (zs .1 .1 .0) (opens sheet (bytes .now) m p pe rows re (numbersOf (table .now)) (numbersOf (zs .1 .1 .0)) ze) long pis)))))))))))))))))))
+        by ! (exits p (zs .1 .1 .0) (opens sheet (bytes .now) m p pe rows re (table .now) (zs .1 .1 .0) ze) long pis)))))))))))))))))))
 
 module _ {M : Type 1} (𝓤 : URA M) (H : Heap 𝓤) (A : Atoms 𝓤) (W : Given 𝓤 H A) (mem : Memory → SProp 𝓤) (run : Routine → Fun 𝓤) where
   walks : (𝓣 : Tables 𝓤 H) → Triple 𝓤 (𝓣 .C #u64-based·open-plain-under) (Plain 𝓤 H A mem run) → Triple 𝓤 (𝓣 .C #u64-based·opening·table-rows) (Rows 𝓤 H A mem run) → Triple 𝓤 (𝓣 .C #records·fill) (Fill 𝓤 H A mem run)

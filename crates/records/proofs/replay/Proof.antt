@@ -1,7 +1,7 @@
 -- `records::replay` meets its contract: a walk of its MIR, by hand, with a loop. A turn takes the block of the chunk at hand out of the table (`block_at`) and passes it to `step`.
 -- What holds before each turn is `Replays`' `State`.
 -- Assumes nothing.
-use Rattle.walking.proofs.Walk.{_≡_, refl, sym, _∙_, ap, ℕ, _<_, _^_, List, [], _∷_, length, URA, fullShare, Ty, named, imm, w8, w32, w64, tyInt, tyBool, tyRef, Val, vbool, vint, SProp, ent, emp, via, fst∗, id⊢, Lft, Share, Fml, ftrue, fat, froom, fdies, flft}
+use Rattle.walking.proofs.Walk.{_≡_, refl, _∙_, ap, ℕ, _<_, _^_, List, [], _∷_, length, URA, fullShare, Ty, named, imm, w8, w32, w64, tyInt, tyBool, tyRef, Val, vbool, vint, SProp, ent, emp, via, fst∗, id⊢, Lft, Share, Fml, ftrue, fat, froom, fdies, flft}
 use Rattle.walking.proofs.Walk.{Memory, Routine, Heap, Out, Env, Calls, Loops, Wp, WpFn, Tables, atReturn, afterSeq, afterBlock, afterTurn, Atoms, Fun, fact, factI, givenOf, tables, tablesOf, Bool, true, false, pointee}
 use Rattle.walking.proofs.Walk.{Given, Item, Sq, runs, anyQ, atRet, ‵, raw, _⊛_, ⋆, some, later, _$_, _∵_, !, qed, by, move, keep, drop, use0, use1, split, join, pick, await, rewrite, fsplit, fjoin, suffices, frame, done, whole, sub, look-in, look, init, store, forget, stop, fld, from, load, of-opd, and-then, no-more, assigns, land, first, blocks, loops, again, Below, stays, leaves-loop, exec, returns, enter, alloc1, alloc0, params1, pass1, pass0, free1, free0, fmOf, WpFn-mono}
 use Rattle.walking.proofs.Walk.{owns, Is, shows, u8, RefT, sliceTy, sliceVal, ShrSlice, slice-vals, shr-slice-tells, shr-slice-copy, row, plain, nothing, heard, facts, Contract, Triple, alive, onEntry, tripleOf, entered, cited, ensured, lasts, says, Stays, stay-none, stay-none-slice, walkOf, goes-none, goes-none-slice, Walks, ends-at, walked, walk-meets, yes}
@@ -25,9 +25,7 @@ use Rattle.replaying.specs.declared.walking.Walk.{Walk}
 use Rattle.replaying.specs.Walking.{left, Going, Replaying}
 use Rattle.replaying.proofs.walking.Walk.Laws as W′
 use Rattle.replaying.proofs.Walks.{is-on-hand, is-over}
-use Rattle.records.specs.Records.{numbersOf}
 use Rattle.records.proofs.Types as Ty
-use Rattle.records.proofs.Tables.{quarter}
 use Rattle.records.proofs.Replays as R
 use Rattle.replaying.proofs.walking.block_of as of
 use Rattle.replaying.proofs.walking.block_of.Symbol as of-def
@@ -105,7 +103,7 @@ module _ {M : Type 1} (𝓤 : URA M) (H : Heap 𝓤) (A : Atoms 𝓤) (W : Given
 
   -- what each row reads as
   abbrev reads : ℕ → Outcome ℕ
-  reads = rowAt c (numbersOf (table .now)) (bytes .now)
+  reads = rowAt c (table .now) (bytes .now)
 
   abbrev State : Type 0
   State = R.State reads (c .window .rows) (recording .now)
@@ -145,8 +143,8 @@ module _ {M : Type 1} (𝓤 : URA M) (H : Heap 𝓤) (A : Atoms 𝓤) (W : Given
 
   -- what it says
   abbrev Says : State → Block → Walk → Type 0
-  Says t d r = (numbers : List ℕ) → n ≡ length numbers / 4 → d ≡ blockAt numbers (columnRow c (t .w .at) % 2 ^ 32 / 512)
-      → Replaying (rowAt c numbers (bytes .now)) (c .window .rows) (recording .now) (t .w) → Replaying (rowAt c numbers (bytes .now)) (c .window .rows) (recording .now) r
+  Says t d r = (blocks : List Block) → n ≡ length blocks → d ≡ blockAt blocks (columnRow c (t .w .at) % 2 ^ 32 / 512)
+      → Replaying (rowAt c blocks (bytes .now)) (c .window .rows) (recording .now) (t .w) → Replaying (rowAt c blocks (bytes .now)) (c .window .rows) (recording .now) r
 
   abbrev asked : (t : State) → t .w .going ≡ true → Going (c .window .rows) (t .w)
   asked t test = is-on-hand reads (c .window .rows) (recording .now) (t .w) (t .under-way) test .going
@@ -189,7 +187,7 @@ module _ {M : Type 1} (𝓤 : URA M) (H : Heap 𝓤) (A : Atoms 𝓤) (W : Given
         (and-then ! (load ! (from ! (stop !)) (look ! 10 refl)) (and-then ! (load ! (from ! (stop !)) (look ! 6 refl)) (no-more !))) (λ k ke kis. drop ! $ land ! (from ! (stop !)) (init ! 6 refl (typed W (number w64) k _ kis .0)) $
         -- the table is copied, and goes to `block_at`
         move ! (1 ∷ []) $ use1 W (‵ Blocks ⊛ ‵ Blocks) (shr-slice-copy 𝓤 H A W (named 0) κ (Ty.block .row) .twice table (tv ∷ [])) $ split ! $ nothing ! $ have ! (number w64) k kis $ fjoin ! $ move ! (1 ∷ 0 ∷ []) $ fjoin ! $ move ! (2 ∷ 0 ∷ []) $
-        calls-plain ! (fmOf 𝓤 H (W .laws) 𝓣) at′.ended (at′.clauses 𝓤 H A mem run) known-at ((κ, tt), (q, tt), tt, (table, (k, tt)), (tv ∷ [], (vint w64 k ∷ [], tt))) tt (id⊢ 𝓤 _) (λ r. r ≡ blockAt (numbersOf (table .now)) k) (λ r e. id⊢ 𝓤 _) (Ty.block .val) (Ty.block .tells)
+        calls-plain ! (fmOf 𝓤 H (W .laws) 𝓣) at′.ended (at′.clauses 𝓤 H A mem run) known-at ((κ, tt), (q, tt), tt, (table, (k, tt)), (tv ∷ [], (vint w64 k ∷ [], tt))) tt (id⊢ 𝓤 _) (λ r. r ≡ blockAt (table .now) k) (λ r e. id⊢ 𝓤 _) (Ty.block .val) (Ty.block .tells)
         (and-then ! (load ! (from ! (stop !)) (look ! 10 refl)) (and-then ! (load ! (from ! (stop !)) (look ! 6 refl)) (no-more !))) (λ d de dis. land ! (from ! (stop !)) (init ! 7 refl (typed W Ty.block d _ dis .0)) $
         -- the bytes and the recording are copied, and go to `step`
         nothing ! $ have ! Ty.replay (t .w) (t .fits) $ fjoin ! $ move ! (5 ∷ []) $ use1 W (‵ Recording ⊛ ‵ Recording) (shr-slice-copy 𝓤 H A W (named 2) κ₂ u8 .twice recording (rv ∷ [])) $ split ! $ move ! (0 ∷ 2 ∷ []) $ fjoin ! $
@@ -201,7 +199,7 @@ module _ {M : Type 1} (𝓤 : URA M) (H : Heap 𝓤) (A : Atoms 𝓤) (W : Given
         split ! $ drop ! $ split ! $ heard ! (Says t d r) (λ e. heard ! (left r < left (t .w)) (λ less. split ! $ move ! (1 ∷ []) $ facts ! (Ty.replay .row) (Is (Ty.replay .row)) (shows 𝓤 H A (Ty.replay .row)) r (u ∷ []) (λ is.
         land-last ! (from ! (stop !)) (store ! 5 refl (typed W Ty.replay r _ is .0)) $ rewrite ! 5 (λ (v : Val). ‵ (fat fullShare W′.mir l₇ 0 v)) (spelled Ty.replay r u is) refl $
         forget ! 6 refl $ forget ! 7 refl $ forget ! 8 refl $ move ! (3 ∷ 4 ∷ 0 ∷ 1 ∷ 2 ∷ []) $
-        again ! (R._≺_ reads (c .window .rows) (recording .now)) I t (R.under reads (c .window .rows) (recording .now) r (e (numbersOf (table .now)) (sym (quarter (table .now))) (de ∙ ap (blockAt (numbersOf (table .now))) ke) (t .under-way)) (fits Ty.replay r u is)) less))))))))
+        again ! (R._≺_ reads (c .window .rows) (recording .now)) I t (R.under reads (c .window .rows) (recording .now) r (e (table .now) refl (de ∙ ap (blockAt (table .now)) ke) (t .under-way)) (fits Ty.replay r u is)) less))))))))
 
     -- the turn that leaves the loop, and the rest of the body
     ends : (t : State) → t .w .going ≡ false → Sq W (I t) (runs C Λ En mir.turn-1 (anyQ (After t)))

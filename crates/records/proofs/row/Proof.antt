@@ -1,6 +1,6 @@
 -- `records::row` meets its contract: a walk of its MIR, by hand. It passes the table on to `block_at` and what that gives to `row_in`: three calls, no branch.
 -- Assumes nothing.
-use Rattle.walking.proofs.Walk.{_≡_, refl, _∙_, ap, ℕ, _<_, _^_, List, [], _∷_, length, getD, URA, named, w64, Val, vint, SProp, ent, emp, via, fst∗, id⊢, Lft, Share, Fml, ftrue, flft, Memory, Routine, Heap, Calls, Loops, WpFn, Tables, Atoms, Fun, givenOf, tables, tablesOf}
+use Rattle.walking.proofs.Walk.{_≡_, refl, _∙_, ℕ, _<_, _^_, List, [], _∷_, length, URA, named, w64, Val, vint, SProp, ent, emp, via, fst∗, id⊢, Lft, Share, Fml, ftrue, flft, Memory, Routine, Heap, Calls, Loops, WpFn, Tables, Atoms, Fun, givenOf, tables, tablesOf}
 use Rattle.walking.proofs.Walk.{Given, Item, ‵, raw, _⊛_, ⋆, _$_, _∵_, !, qed, by, move, drop, use0, use1, split, join, fsplit, fjoin, suffices, frame, done, whole, sub, look-in, look, init, forget, stop, fld, from, load, of-opd, and-then, no-more, assigns, land, returns, enter, alloc1, alloc0, params1, pass1, pass0, free1, free0, FmC, fmOf, WpFn-mono}
 use Rattle.walking.proofs.Walk.{owns, u8, RefT, sliceVal, ShrSlice, slice-vals, shr-slice-tells, shr-slice-copy, plain, nothing, Contract, Triple, alive, onEntry, tripleOf, entered, cited, says, Stays, stay-none, stay-none-slice, walkOf, goes-none, goes-none-slice, Walks, ends-at, walked, walk-meets, yes}
 use Prim.Native.Nat.{_/_, _%_}
@@ -14,8 +14,7 @@ use Rattle.format.specs.declared.RowRead.{RowRead}
 use Rattle.format.specs.Outcome.{Outcome}
 use Rattle.format.specs.Refusals.{rowMeaning}
 use Rattle.format.specs.Reading.{columnRow, blockAt, rowIn, rowAt}
-use Rattle.records.specs.Records.{numbersOf}
-use Rattle.records.proofs.Tables.{by-record}
+use Rattle.records.proofs.Tables.{by-block}
 use Rattle.records.proofs.block_of as of
 use Rattle.records.proofs.block_of.Symbol as of-def
 use Rattle.records.proofs.block_of.Symbol.{name as #records·block-of}
@@ -67,7 +66,7 @@ module _ {M : Type 1} (𝓤 : URA M) (H : Heap 𝓤) (A : Atoms 𝓤) (W : Given
   at = (vals Ty.column c, (tv ∷ [], (bv ∷ [], (vals Ty.windowRow i, tt))))
 
   abbrev answer : Outcome ℕ
-  answer = rowAt c (numbersOf (table .now)) (bytes .now) (i .0)
+  answer = rowAt c (table .now) (bytes .now) (i .0)
 
   abbrev Post : Val → SProp 𝓤
   Post = walkOf 𝓤 H A f.ended stayed (f.clauses 𝓤 H A mem run) .post (((κ, (κ′, tt)), (q, (q′, tt)), tt, x, at), tt)
@@ -109,7 +108,7 @@ module _ {M : Type 1} (𝓤 : URA M) (H : Heap 𝓤) (A : Atoms 𝓤) (W : Given
         -- the table is copied, and goes to `block_at`
         use1 W (‵ Blocks ⊛ ‵ Blocks) (shr-slice-copy 𝓤 H A W (named 0) κ (Ty.block .row) .twice table (tv ∷ [])) $ split ! $ nothing ! $ have ! (number w64) k kis $ fjoin ! $ move ! (1 ∷ 0 ∷ []) $ fjoin ! $
         nothing ! $ move ! (4 ∷ 0 ∷ []) $ join ! $ use1 W Token (id⊢ 𝓤 _) $
-        calls-plain ! fm at′.ended (at′.clauses 𝓤 H A mem run) known-at ((κ, tt), (q, tt), tt, (table, (k, tt)), (tv ∷ [], (vint w64 k ∷ [], tt))) tt (id⊢ 𝓤 _) (λ r. r ≡ blockAt (numbersOf (table .now)) k) (λ r e. id⊢ 𝓤 _) (Ty.block .val) (Ty.block .tells)
+        calls-plain ! fm at′.ended (at′.clauses 𝓤 H A mem run) known-at ((κ, tt), (q, tt), tt, (table, (k, tt)), (tv ∷ [], (vint w64 k ∷ [], tt))) tt (id⊢ 𝓤 _) (λ r. r ≡ blockAt (table .now) k) (λ r e. id⊢ 𝓤 _) (Ty.block .val) (Ty.block .tells)
         (and-then ! (load ! (from ! (stop !)) (look ! 14 refl)) (and-then ! (load ! (from ! (stop !)) (look ! 6 refl)) (no-more !))) (λ d de dis. land ! (from ! (stop !)) (init ! 4 refl (typed W Ty.block d _ dis .0)) $
         -- [token κ; the table; the bytes; token κ′; _7 4; …]: the bytes are copied, and go to `row_in`
         move ! (2 ∷ []) $ use1 W (‵ Bytes ⊛ ‵ Bytes) (shr-slice-copy 𝓤 H A W (named 1) κ′ u8 .twice bytes (bv ∷ [])) $ split ! $
@@ -123,7 +122,7 @@ module _ {M : Type 1} (𝓤 : URA M) (H : Heap 𝓤) (A : Atoms 𝓤) (W : Given
         returns ! (look ! 18 refl) $ forget ! 4 refl $ forget ! 6 refl $ forget ! 8 refl $ forget ! 10 refl $ forget ! 12 refl $ forget ! 14 refl $ forget ! 16 refl $ forget ! 18 refl $
         move ! (18 ∷ 19 ∷ []) $ free1 ! $ move ! (16 ∷ 17 ∷ []) $ free1 ! $ move ! (14 ∷ 15 ∷ []) $ free1 ! $ move ! (12 ∷ 13 ∷ []) $ free1 ! $ move ! (10 ∷ 11 ∷ []) $ free1 ! $ move ! (8 ∷ 9 ∷ []) $ free1 ! $ move ! (6 ∷ 7 ∷ []) $ free1 ! $ move ! (4 ∷ 5 ∷ []) $ free1 ! $ free0 ! $
         move ! (2 ∷ []) $ use1 W (‵ (flft κ q) ⊛ ‵ ftrue) (id⊢ 𝓤 _) $ split ! $ move ! (1 ∷ []) $ drop ! $ move ! (0 ∷ 1 ∷ 3 ∷ 2 ∷ []) $
-        by ! (exits r (e ∙ by-record c (Ty.column-rows c cis) (table .now) (bytes .now) (i .0) ke de) is cis iis))))))))))))
+        by ! (exits r (e ∙ by-block c (Ty.column-rows c cis) (table .now) (bytes .now) (i .0) ke de) is cis iis))))))))))))
 
 module _ {M : Type 1} (𝓤 : URA M) (H : Heap 𝓤) (A : Atoms 𝓤) (W : Given 𝓤 H A) (mem : Memory → SProp 𝓤) (run : Routine → Fun 𝓤) where
   walks : (𝓣 : Tables 𝓤 H) → Triple 𝓤 (𝓣 .C #records·block-of) (Of 𝓤 H A mem run) → Triple 𝓤 (𝓣 .C #records·block-at) (At 𝓤 H A mem run) → Triple 𝓤 (𝓣 .C #reading·reader·row-in) (In 𝓤 H A mem run)

@@ -1,13 +1,12 @@
 -- `report` meets its contract: the line of a column that does not open, of a recording that is too long, or of the replay.
 -- Assumes nothing.
-use native.Mathlib.Omega.{arith}
-use Rattle.reporting.proofs.Reports.{reported-column, reported-long, reported-run}
+use Rattle.reporting.proofs.Reports.{reported-column, found-column, reported-long, reported-run}
 use borrow.Author.Needs.{needs}
 use Rattle.reporting.proofs.report.Statement.{statement}
 use Rattle.reporting.proofs.report.Tie as tie
 
-open-requires : tie.Need-open-requires
-open-requires c κs = search needs
+open-plain-requires : tie.Need-open-plain-requires
+open-plain-requires c κs = search needs
 
 enum-known-opened : tie.Need-enum-known-opened
 enum-known-opened c = search needs
@@ -31,7 +30,7 @@ returns : tie.Need-returns
 returns c =
     let number = c .before .before .before in
     let told = number .before in
-    (reported-column _ _ (told .before .before .«open» .ensures) (told .enum-told .given .1) (number .refusal-number .ensures) (c .named-line .ensures .0), c .named-line .ensures .1)
+    (reported-column _ _ (told .before .before .open-plain .ensures) (told .enum-told .given .1) (number .refusal-number .ensures) (c .named-line .ensures .0), c .named-line .ensures .1)
 
 slice-aggregate-named-line-2 : tie.Need-slice-aggregate-named-line-2
 slice-aggregate-named-line-2 c = search needs
@@ -43,10 +42,11 @@ returns-2 : tie.Need-returns-2
 returns-2 c =
     let long = c .before .before .before in
     let was = long .before .before in
-    (reported-long _ _ (was .before .before .«open» .ensures) (was .opened .given .1) (long .if1 .taken) (c .named-line2 .ensures .0), c .named-line2 .ensures .1)
+    (reported-long _ _ (was .before .before .open-plain .ensures) (was .opened .given .1) (long .if1 .taken) (c .named-line2 .ensures .0), c .named-line2 .ensures .1)
 
 replay-requires : tie.Need-replay-requires
-replay-requires c κs = search needs
+replay-requires c κs = let was = c .before .before in
+    found-column _ (was .before .before .open-plain .ensures) (was .opened .given .1)
 
 report-line-requires : tie.Need-report-line-requires
 report-line-requires c κs = search needs
@@ -54,15 +54,15 @@ report-line-requires c κs = search needs
 returns-3 : tie.Need-returns-3
 returns-3 c =
     let run = c .before .before in
-    let short = run .before .before .before in
+    let short = run .before in
     let was = short .before .before in
-    (reported-run _ _ (was .before .before .«open» .ensures) (was .opened .given .1) (run .replay .result) (omega arith) (short .if1 .left) (run .replay .ensures) (c .report-line .ensures .0), c .report-line .ensures .1)
+    (reported-run _ _ (was .before .before .open-plain .ensures) (was .opened .given .1) (run .replay .result) (short .if1 .left) (run .replay .ensures) (c .report-line .ensures .0), c .report-line .ensures .1)
 
 pub report-spec : {M : Type 1} → statement M
 report-spec =
     tie.close
     (tie.spec
-    open-requires
+    open-plain-requires
     enum-known-opened
     enum-told
     refusal-number-requires

@@ -3,7 +3,6 @@
 use mathlib.Core.Path.{_≡_, ap, subst}
 use denote.Ref.{now}
 use borrow.Author.Needs.{needs}
-use Rattle.format.specs.Outcome.{Outcome}
 use Rattle.format.specs.Refusals.{openedMeaning}
 use Rattle.sheets.specs.Faults.{AllWithin}
 use Rattle.sheets.proofs.SheetNumbers.{under-none, under-unknown, under-one, is-two, under-refused, under-strict}

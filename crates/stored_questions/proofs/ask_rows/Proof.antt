@@ -6,10 +6,10 @@ use Rattle.stored_questions.proofs.ask_rows.Statement.{statement}
 use Rattle.stored_questions.proofs.ask_rows.Tie as tie
 
 abbrev Inv-loop : tie.InvT-loop
-Inv-loop column table bytes file from count asked₀ at₀ asked at = Unit {0}
+Inv-loop column table room bytes file from count asked₀ at₀ asked at = Unit {0}
 
 abbrev μ-loop : tie.MeasureT-loop
-μ-loop column table bytes file from count asked₀ at₀ asked at = count - asked
+μ-loop column table room bytes file from count asked₀ at₀ asked at = count - asked
 
 loop-holds : tie.Need-loop-holds Inv-loop μ-loop
 loop-holds c = search needs

@@ -1,6 +1,6 @@
 -- `u64_based::open_plain_under` meets its contract: opening, under the sheet.
 -- Assumes nothing.
-use mathlib.Core.Path.{_≡_, ap, _∙_}
+use mathlib.Core.Path.{ap, _∙_}
 use denote.Ref.{now}
 use borrow.Author.Needs.{needs}
 use Rattle.format.specs.Opening.{opened}

@@ -1,6 +1,6 @@
 -- `view::for_view` meets its contract: a refusal by its number, a column by its codec.
 -- Assumes nothing.
-use mathlib.Core.Path.{_≡_, sym, ap, _∙_}
+use mathlib.Core.Path.{sym, ap, _∙_}
 use borrow.Author.Needs.{needs}
 use Rattle.format.specs.Refusals.{openedMeaning}
 use Rattle.view.proofs.Views.{for-refused, for-other, for-column}

@@ -5,7 +5,7 @@ use mathlib.Core.Path.{_≡_}
 use native.Mathlib.Omega.{arith}
 use lib.ListN.{length}
 use denote.Ref.{now}
-use Rattle.format.specs.Reading.{rowAt}
+use Rattle.text.specs.Own.{ownRow}
 use Rattle.blaming.specs.Bytes.{rowText}
 use Rattle.blaming.proofs.RowTexts.{Written, written-starts, written-more}
 use borrow.Author.Needs.{needs}
@@ -13,10 +13,10 @@ use Rattle.blaming.proofs.rows.put_rows.Statement.{statement}
 use Rattle.blaming.proofs.rows.put_rows.Tie as tie
 
 abbrev Inv-loop : tie.InvT-loop
-Inv-loop out₀ at left ltable lbytes right rtable rbytes first last count end₀ k₀ out end k = Written (rowText (rowAt left ltable lbytes) (rowAt right rtable rbytes)) out₀ at first k out end × (count ≡ last + 1 - first) × (k ≤ count) × (end ≤ at + 57 * k) × (length out ≡ length out₀)
+Inv-loop out₀ at left lbytes right rbytes first last count end₀ k₀ out end k = Written (rowText (ownRow (left .column) lbytes) (ownRow (right .column) rbytes)) out₀ at first k out end × (count ≡ last + 1 - first) × (k ≤ count) × (end ≤ at + 57 * k) × (length out ≡ length out₀)
 
 abbrev μ-loop : tie.MeasureT-loop
-μ-loop out₀ at left ltable lbytes right rtable rbytes first last count end₀ k₀ out end k = count - k
+μ-loop out₀ at left lbytes right rbytes first last count end₀ k₀ out end k = count - k
 
 sub-count : tie.Need-sub-count Inv-loop μ-loop
 sub-count c = omega arith
@@ -30,11 +30,11 @@ loop-holds c = (written-starts _ _ _ _, omega arith, omega arith, omega arith, o
 add-row : tie.Need-add-row Inv-loop μ-loop
 add-row c = omega arith
 
-row-requires : tie.Need-row-requires Inv-loop μ-loop
-row-requires c κs = search needs
+answer-requires : tie.Need-answer-requires Inv-loop μ-loop
+answer-requires c κs = search needs
 
-row-requires-2 : tie.Need-row-requires-2 Inv-loop μ-loop
-row-requires-2 c κs = search needs
+answer-requires-2 : tie.Need-answer-requires-2 Inv-loop μ-loop
+answer-requires-2 c κs = search needs
 
 put-row-requires : tie.Need-put-row-requires Inv-loop μ-loop
 put-row-requires c κs = omega arith
@@ -49,9 +49,9 @@ loop-again : tie.Need-loop-again Inv-loop μ-loop
 loop-again c = let put = c .before .before in
     let b = put .before .before in
     let l = b .before .before .before in
-    let a = l .before .before .before .before .before .before .args in (
-      written-more (rowText (rowAt (a .left) (now (a .ltable)) (now (a .lbytes))) (rowAt (a .right) (now (a .rtable)) (now (a .rbytes)))) (a .first) (l .loop .k)
-          (l .loop .inv .0) (rw (b .before .row .ensures, b .row2 .ensures) at (put .put-row .ensures .0)),
+    let a = l .before .before .before .before .args in (
+      written-more (rowText (ownRow (a .left .column) (now (a .lbytes))) (ownRow (a .right .column) (now (a .rbytes)))) (a .first) (l .loop .k)
+          (l .loop .inv .0) (rw (b .before .answer .ensures, b .answer2 .ensures) at (put .put-row .ensures .0)),
       l .loop .inv .1,
       omega arith,
       omega (arith, put .put-row .ensures .1),
@@ -64,7 +64,7 @@ same-length c = omega arith
 returns : tie.Need-returns Inv-loop μ-loop
 returns c =
     let l = c .before in
-    let a = l .before .before .before .before .before .before .args in
+    let a = l .before .before .before .before .args in
     let all : l .loop .k ≡ a .last + 1 - a .first = omega (arith, c .loop-test .left) in
     (rw (← all) (l .loop .inv .0), omega arith)
 
@@ -78,8 +78,8 @@ put-rows-spec =
     add-count
     loop-holds
     add-row
-    row-requires
-    row-requires-2
+    answer-requires
+    answer-requires-2
     put-row-requires
     add-k
     loop-less

@@ -10,7 +10,7 @@ use denote.Ref.{now}
 use lib.ListN.{take}
 use lib.Seq.{length-take-le}
 use Rattle.format.specs.Typed.{storedAs}
-use Rattle.reading.specs.Stretch.{counted}
+use Rattle.chunks.specs.Stretch.{counted}
 use Rattle.checking.specs.Walks.{sameFront}
 use Rattle.checking.proofs.Steps.{behind-none, front-few, behind-some}
 use Rattle.checking.proofs.rows.step.Statement.{statement}

@@ -9,9 +9,9 @@ use Rattle.format.specs.declared.Part.{Part}
 use Rattle.format.specs.Outcome.{Outcome, Outcome.value, _>>=_}
 use Rattle.format.proofs.Outcomes.{told}
 use Rattle.explaining.specs.Bytes.{partOf, partMeaning}
-use Rattle.column_c.specs.Explaining.{partNumbers}
-use Rattle.column_c.proofs.Answering.{through, stopped}
-use Rattle.column_c.proofs.Telling.{tells, silent}
+use Rattle.plain.specs.Explaining.{partNumbers}
+use Rattle.plain.proofs.Answering.{through, stopped}
+use Rattle.plain.proofs.Telling.{tells, silent}
 use borrow.Author.Needs.{needs}
 use Rattle.column_c.proofs.parts.hulemartob_part_at.Statement.{statement}
 use Rattle.column_c.proofs.parts.hulemartob_part_at.Tie as tie

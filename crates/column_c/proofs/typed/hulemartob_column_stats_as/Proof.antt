@@ -9,7 +9,7 @@ use Rattle.format.specs.Outcome.{Outcome}
 use Rattle.format.specs.Stats.{stated}
 use Rattle.format.specs.Typed.{storedAs}
 use Rattle.column_c.proofs.Answering.{stated-numbers, not-stated}
-use Rattle.column_c.proofs.Naming.{kind-through, kind-stopped}
+use Rattle.plain.proofs.Naming.{kind-through, kind-stopped}
 use borrow.Author.Needs.{needs}
 use Rattle.column_c.proofs.typed.hulemartob_column_stats_as.Statement.{statement}
 use Rattle.column_c.proofs.typed.hulemartob_column_stats_as.Tie as tie

@@ -1,6 +1,6 @@
 -- `column_c::typed::hulemartob_i64_range` meets its contract: the two numbers are those of the range.
 -- Assumes nothing.
-use Rattle.column_c.proofs.Naming.{stored-range}
+use Rattle.column_c.proofs.Ranges.{stored-range}
 use borrow.Author.Needs.{needs}
 use Rattle.column_c.proofs.typed.hulemartob_i64_range.Statement.{statement}
 use Rattle.column_c.proofs.typed.hulemartob_i64_range.Tie as tie

@@ -11,7 +11,7 @@ use Rattle.format.specs.Refusals.{writtenMeaning}
 use Rattle.format.specs.Typed.{storedAs}
 use Rattle.format.specs.Writing.{written}
 use Rattle.column_c.proofs.Answering.{listed, unlisted, untouched}
-use Rattle.column_c.proofs.Naming.{kind-through, kind-stopped}
+use Rattle.plain.proofs.Naming.{kind-through, kind-stopped}
 use borrow.Author.Needs.{needs}
 use Rattle.column_c.proofs.typed.hulemartob_serialize_as.Statement.{statement}
 use Rattle.column_c.proofs.typed.hulemartob_serialize_as.Tie as tie

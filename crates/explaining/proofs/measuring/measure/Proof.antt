@@ -1,6 +1,6 @@
 -- `explaining::measuring::measure` meets its contract: each shape, as the definition has it.
 -- Assumes nothing.
-use mathlib.Core.Path.{_≡_, refl, sym, ap, _∙_}
+use mathlib.Core.Path.{refl, ap, _∙_}
 use Prim.Native.Nat.{ℕ, _-_}
 use Rattle.format.specs.Parts.{extent, spelled}
 use borrow.Author.Needs.{needs}

@@ -1,6 +1,6 @@
 -- `explaining::measuring::spelling` meets its contract: a varint that was read ends behind its offset; one that was not has no bytes.
 -- Assumes nothing.
-use mathlib.Core.Path.{_≡_, refl, sym, ap, _∙_}
+use mathlib.Core.Path.{sym, ap}
 use native.Mathlib.Omega.{arith}
 use Rattle.format.specs.Parts.{spelledIn, numberIn}
 use Rattle.format.proofs.Outcomes.{told}

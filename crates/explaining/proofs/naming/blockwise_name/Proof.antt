@@ -1,10 +1,10 @@
 -- `explaining::naming::blockwise_name` meets its contract: two names, and the footer's behind them.
 -- Assumes nothing.
-use mathlib.Core.Path.{_≡_, refl, sym, ap, _∙_}
-use Prim.Native.Nat.{ℕ, _+_, _-_, _*_, _/_, _%_, _^_, _≤_, _<_, min}
+use mathlib.Core.Path.{sym, ap, _∙_}
+use Prim.Native.Nat.{_-_}
 use native.Mathlib.Omega.{arith}
-use mathlib.Core.List.{List, [], _∷_, _++_}
-use Rattle.format.specs.declared.PartName.the-variants.{Area, Behind, Slope, Intercept, Width, Spare, FooterLength}
+use mathlib.Core.List.{[], _∷_}
+use Rattle.format.specs.declared.PartName.the-variants.{Area, Behind}
 use Rattle.explaining.specs.Walk.{nameIn}
 use Rattle.explaining.proofs.Names.{nth-front, nth-behind, footerNames}
 use borrow.Author.Needs.{needs}

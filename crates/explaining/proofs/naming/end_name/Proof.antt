@@ -1,8 +1,8 @@
 -- `explaining::naming::end_name` meets its contract: each number's name; behind the last there is none.
 -- Assumes nothing.
-use mathlib.Core.Path.{_≡_, refl, sym, ap, _∙_}
-use mathlib.Core.List.{List, [], _∷_, _++_}
-use Rattle.format.specs.declared.PartName.the-variants.{Area, Behind, Slope, Intercept, Width, Spare, FooterLength}
+use mathlib.Core.Path.{sym, ap}
+use mathlib.Core.List.{[], _∷_}
+use Rattle.format.specs.declared.PartName.the-variants.{Spare, FooterLength}
 use Rattle.explaining.specs.Walk.{nameIn}
 use Rattle.explaining.proofs.Names.{nth-past, past-two}
 use Rattle.explaining.proofs.naming.end_name.Statement.{statement}

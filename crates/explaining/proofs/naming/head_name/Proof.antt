@@ -1,7 +1,6 @@
 -- `explaining::naming::head_name` meets its contract: each number's name; behind the last there is none.
 -- Assumes nothing.
-use mathlib.Core.Path.{_≡_, refl, sym, ap, _∙_}
-use mathlib.Core.List.{List, [], _∷_, _++_}
+use mathlib.Core.Path.{sym, ap}
 use Rattle.format.specs.Parts.{headNames}
 use Rattle.explaining.specs.Walk.{nameIn}
 use Rattle.explaining.proofs.Names.{nth-past, past-five}

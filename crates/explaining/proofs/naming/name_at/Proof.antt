@@ -1,6 +1,6 @@
 -- `explaining::naming::name_at` meets its contract: the head's names, and those behind them.
 -- Assumes nothing.
-use mathlib.Core.Path.{_≡_, refl, sym, ap, _∙_}
+use mathlib.Core.Path.{sym, ap, _∙_}
 use Rattle.explaining.specs.Walk.{nameIn}
 use Rattle.explaining.proofs.Names.{names-front, names-behind}
 use borrow.Author.Needs.{needs}

@@ -1,9 +1,9 @@
 -- `explaining::naming::name_behind` meets its contract: each codec's names.
 -- Assumes nothing.
-use mathlib.Core.Path.{_≡_, refl, sym, ap, _∙_}
+use mathlib.Core.Path.{ap, _∙_}
 use Prim.Native.Nat.{ℕ}
-use mathlib.Core.List.{List, [], _∷_, _++_}
-use Rattle.format.specs.declared.PartName.the-variants.{Area, Behind, Slope, Intercept, Width, Spare, FooterLength}
+use mathlib.Core.List.{_∷_}
+use Rattle.format.specs.declared.PartName.the-variants.{Area, Behind}
 use Rattle.explaining.specs.Walk.{nth, nameIn}
 use Rattle.explaining.proofs.Names.{footerNames}
 use borrow.Author.Needs.{needs}

@@ -1,13 +1,14 @@
--- `explaining::owning::block_run` meets its contract: the block's numbers are the table's.
+-- `explaining::owning::block_run` meets its contract: the block's run.
 -- Assumes nothing.
-use denote.Ref.{now}
-use Rattle.explaining.proofs.Runs.{block-is}
+use Prim.Native.Nat.{ℕ, _*_}
+use mathlib.Core.Path.{ap, _∙_}
+use Rattle.format.specs.Parts.{runOwners}
 use borrow.Author.Needs.{needs}
 use Rattle.explaining.proofs.owning.block_run.Statement.{statement}
 use Rattle.explaining.proofs.owning.block_run.Tie as tie
 
-block-at-requires : tie.Need-block-at-requires
-block-at-requires c κs = search needs
+cast-first : tie.Need-cast-first
+cast-first c = search needs
 
 mul-first : tie.Need-mul-first
 mul-first c = search needs
@@ -23,16 +24,9 @@ run-owners-requires c κs = search needs
 
 returns : tie.Need-returns
 returns c =
-    let s = c .before .before .before .before .args in
-    block-is (now (s .table)) (s .rows) (s .k) (s .j) _ _ _ (c .before .before .block-at .ensures) (c .before .block-rows .ensures) (c .run-owners .ensures)
+    let s = c .before .before .args in
+    c .run-owners .ensures ∙ ap (λ (m : ℕ). runOwners (record { start = s .block .start; bits = s .block .bits; first = 512 * s .k; rows = m }) (s .j)) (c .before .block-rows .ensures)
 
 pub block-run-spec : {M : Type 1} → statement M
 block-run-spec =
-    tie.close
-    (tie.spec
-    block-at-requires
-    mul-first
-    sub-block-rows
-    block-rows-requires
-    run-owners-requires
-    returns)
+    tie.close (tie.spec cast-first mul-first sub-block-rows block-rows-requires run-owners-requires returns)

@@ -1,6 +1,6 @@
 -- `replaying::walking::step_through` meets its contract.
 -- Assumes nothing.
-use mathlib.Core.Path.{refl, sym, _∙_, ap}
+use mathlib.Core.Path.{_∙_, ap}
 use Prim.Native.Nat.{_-_, _^_, _<_}
 use native.Mathlib.Omega.{arith}
 use denote.Ref.{now}
@@ -8,11 +8,10 @@ use lib.ListN.{length}
 use borrow.Author.Tests.{not-true, not-false}
 use mathlib.Core.Bool.{Bool, false}
 use Rattle.format.specs.Outcome.{pick}
-use Rattle.format.specs.Reading.{rowAt}
 use Rattle.format.specs.Replaying.{sameRows}
 use Rattle.replaying.specs.Walking.{toCome}
 use Rattle.replaying.proofs.Walks.{is-on-hand, ended, left-over, left-some, refuses, strays}
-use Rattle.reading.proofs.Chunks.{whole-long, whole-run, refused-run}
+use Rattle.chunks.proofs.Chunks.{whole-long, whole-run, refused-run}
 use borrow.Author.Needs.{needs}
 use Rattle.replaying.proofs.walking.step_through.Statement.{statement}
 use Rattle.replaying.proofs.walking.step_through.Tie as tie

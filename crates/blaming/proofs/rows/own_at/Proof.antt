@@ -1,0 +1,26 @@
+-- `own_at` meets its contract: the pass before the first block, and on to the row's.
+-- Assumes nothing.
+use mathlib.Core.Path.{sym, ap, _∙_, subst}
+use denote.Ref.{now}
+use Rattle.text.specs.declared.own.Own.{Own}
+use Rattle.text.specs.Own.{ownAt, Owned}
+use Rattle.text.proofs.Owns.{owned-first}
+use borrow.Author.Needs.{needs}
+use Rattle.blaming.proofs.rows.own_at.Statement.{statement}
+use Rattle.blaming.proofs.rows.own_at.Tie as tie
+
+begin-requires : tie.Need-begin-requires
+begin-requires c κs = search needs
+
+reach-requires : tie.Need-reach-requires
+reach-requires c κs =
+    let s = c .before .before in
+    subst (λ (x : Own). Owned (now (s .args .bytes)) (x .column) (x .pass)) (sym (c .begin .ensures)) (owned-first (s .pre))
+
+returns : tie.Need-returns
+returns c =
+    let s = c .before .before .before in
+    c .reach .ensures ∙ ap (λ (x : Own). ownAt (now (s .args .bytes)) (x .column) (s .args .row)) (c .before .begin .ensures)
+
+pub own-at-spec : {M : Type 1} → statement M
+own-at-spec = tie.close (tie.spec begin-requires reach-requires returns)

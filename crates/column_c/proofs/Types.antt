@@ -1,0 +1,28 @@
+-- The data of the walks by hand, besides those of the crate records.
+-- Assumes nothing.
+use Rattle.walking.proofs.Data.{Data, enum}
+use Rattle.format.proofs.Checked as C
+use Rattle.format.proofs.Checked.Laws as C′
+use Rattle.format.proofs.Kind as K
+use Rattle.format.proofs.Kind.Laws as K′
+use Rattle.explaining.proofs.RowsRead as R
+use Rattle.explaining.proofs.RowsRead.Laws as R′
+use Rattle.plain.proofs.Made as M
+use Rattle.plain.proofs.Made.Laws as M′
+use Rattle.plain.proofs.kinds.Known as N
+use Rattle.plain.proofs.kinds.Known.Laws as N′
+
+abbrev pub made : Data
+made = enum M.the-type M′.the-laws tt M′.the-plain
+
+abbrev pub rowsRead : Data
+rowsRead = enum R.the-type R′.the-laws tt R′.the-plain
+
+abbrev pub known : Data
+known = enum N.the-type N′.the-laws tt N′.the-plain
+
+abbrev pub kind : Data
+kind = enum K.the-type K′.the-laws tt K′.the-plain
+
+abbrev pub checked : Data
+checked = enum C.the-type C′.the-laws tt C′.the-plain

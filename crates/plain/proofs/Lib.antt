@@ -1,0 +1,5 @@
+pub mod Columns
+pub mod Answering
+pub mod Naming
+pub mod Reporting
+pub mod Telling

@@ -1,0 +1,5 @@
+pub mod Checking
+pub mod Explaining
+pub mod Kinds
+pub mod Numbers
+pub mod Replaying

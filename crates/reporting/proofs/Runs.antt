@@ -1,0 +1,61 @@
+-- A replay over an opened column, by a pass over its own blocks.
+--     Running, running-starts     the invariant of its loop: it starts with the pass before the first block
+--     running-again               a turn with the block that the pass stands at keeps it
+-- Assumes nothing.
+use Prim.Native.Nat.{ℕ, _/_, _%_, _^_, _<_}
+use mathlib.Core.Path.{_≡_, sym, ap, _∙_, subst}
+use mathlib.Core.Bool.{true}
+use mathlib.Core.List.{List}
+use native.Mathlib.Omega.{arith}
+use lib.ListN.{length}
+use Rattle.format.specs.declared.Block.{Block}
+use Rattle.format.specs.declared.Column.{Column}
+use Rattle.format.specs.Bodies.{blockCount}
+use Rattle.format.specs.Listing.{openedHere}
+use Rattle.format.specs.Reading.{columnRow, blockAt, rowAt}
+use Rattle.replaying.specs.declared.walking.Walk.{Walk}
+use Rattle.replaying.specs.Walking.{Replaying}
+use Rattle.replaying.proofs.Walks.{is-on-hand}
+use Rattle.text.specs.declared.own.Own.{Own}
+use Rattle.text.specs.Own.{tableOf, ownRow, blockRows, ownFirst, ownAt, Opens, Owned}
+use Rattle.text.proofs.Owns.{own-few, own-count, own-blocks, own-block, owned-first, owned-at, same-row}
+
+-- the column with a pass over its blocks, and a replay under way by the opening's own blocks
+pub record Running (s : List ℕ) (c : Column) (recording : List ℕ) (own : Own) (w : Walk) : Type 0 where
+  pub column : own .column ≡ c
+  pub owned : Owned s (own .column) (own .pass)
+  pub replay : Replaying (ownRow c s) (c .window .rows) recording w
+
+pub running-starts : {s : List ℕ} {c : Column} {recording : List ℕ} {own : Own} {w : Walk} → Opens s c → own ≡ ownFirst s c → Replaying (ownRow c s) (c .window .rows) recording w → Running s c recording own w
+running-starts {s} opens is begun =
+    record { column = ap (λ (o : Own). o .column) is; owned = subst (λ (o : Own). Owned s (o .column) (o .pass)) (sym is) (owned-first opens); replay = begun }
+
+module _ {s : List ℕ} {c : Column} {recording : List ℕ} {own : Own} {w : Walk} (f : Running s c recording own w) where
+  -- the column's opening
+  opens : Opens s c
+  opens = subst (λ (k : Column). Opens s k) (f .column) (f .owned .opens)
+
+  module _ (on : w .going ≡ true) {next : Own} (is : next ≡ ownAt s (own .column) (w .at)) where
+    there : next ≡ ownAt s c (w .at)
+    there = is ∙ ap (λ (k : Column). ownAt s k (w .at)) (f .column)
+
+    -- the chunk at hand is one of the column's rows, and its block the table's
+    inside : w .at < c .rows
+    inside = let g = is-on-hand _ _ _ _ (f .replay) on .going in
+        omega (arith, g .to, g .inside, own-count opens)
+
+    at-hand : next .pass .block ≡ blockAt (tableOf (openedHere s)) (columnRow c (w .at) % 2 ^ 32 / 512)
+    at-hand =
+        let here : w .at / 512 ≡ columnRow c (w .at) % 2 ^ 32 / 512 = omega (arith, same-row opens (w .at), own-few opens, inside) in
+        ap (λ (o : Own). o .pass .block) there ∙ own-block opens (w .at) inside ∙ ap (blockAt (tableOf (openedHere s))) here
+
+    pub running-again : {blocks : ℕ} {later : Walk} → blocks ≡ blockCount (blockRows c)
+        → ((table : List Block) → blocks ≡ length table → next .pass .block ≡ blockAt table (columnRow c (w .at) % 2 ^ 32 / 512)
+        → Replaying (rowAt c table s) (c .window .rows) recording w → Replaying (rowAt c table s) (c .window .rows) recording later)
+        → Running s c recording next later
+    running-again count step =
+        record {
+          column = ap (λ (o : Own). o .column) there;
+          owned = subst (λ (o : Own). Owned s (o .column) (o .pass)) (sym there) (owned-at opens (w .at));
+          replay = step (tableOf (openedHere s)) (count ∙ own-blocks opens) at-hand (f .replay);
+        }

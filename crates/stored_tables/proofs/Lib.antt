@@ -1,0 +1,2 @@
+-- the walks by hand
+pub mod Lending
