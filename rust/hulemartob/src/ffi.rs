@@ -180,9 +180,8 @@ pub(crate) fn zeroed_table(blocks: usize) -> Vec<Block> {
 pub(crate) fn open_under(sheet: u32, bytes: &[u8], table: &mut [Block]) -> Result<([u64; 12], Option<u64>), Refusal> {
     let (mut column, mut refusal) = ([0; 12], [0; 2]);
     // SAFETY: see the top of this file.
-    let longer = unsafe {
-        hulemartob_open_under(sheet, bytes.as_ptr(), bytes.len(), table.as_mut_ptr(), table.len(), &mut column, &mut refusal)
-    };
+    let longer =
+        unsafe { hulemartob_open_under(sheet, bytes.as_ptr(), bytes.len(), table.as_mut_ptr(), table.len(), &mut column, &mut refusal) };
     answer(refusal, (column, (longer != u64::MAX).then_some(longer)))
 }
 
@@ -238,17 +237,7 @@ pub(crate) fn run(column: &[u64; 12], table: &[Block], bytes: &[u8], first: u32,
     let mut refusal = [0; 2];
     // SAFETY: see the top of this file.
     let many = unsafe {
-        hulemartob_run(
-            column,
-            table.as_ptr(),
-            table.len(),
-            bytes.as_ptr(),
-            bytes.len(),
-            first,
-            out.as_mut_ptr(),
-            out.len(),
-            &mut refusal,
-        )
+        hulemartob_run(column, table.as_ptr(), table.len(), bytes.as_ptr(), bytes.len(), first, out.as_mut_ptr(), out.len(), &mut refusal)
     };
     answer(refusal, many)
 }
@@ -285,9 +274,7 @@ pub(crate) fn part_at(column: &[u64; 12], bytes: &[u8], offset: usize) -> Result
 pub(crate) fn rows_at(column: &[u64; 12], table: &[Block], bytes: &[u8], offset: usize) -> Result<[u64; 2], Refusal> {
     let (mut rows, mut refusal) = ([0; 2], [0; 2]);
     // SAFETY: see the top of this file.
-    unsafe {
-        hulemartob_rows_at(column, table.as_ptr(), table.len(), bytes.as_ptr(), bytes.len(), offset, &mut rows, &mut refusal)
-    };
+    unsafe { hulemartob_rows_at(column, table.as_ptr(), table.len(), bytes.as_ptr(), bytes.len(), offset, &mut rows, &mut refusal) };
     answer(refusal, rows)
 }
 

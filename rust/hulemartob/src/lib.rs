@@ -30,9 +30,9 @@
 //! A column from another writer can be checked against the list of values that it is to hold: [`check`].
 //!
 //! The code here passes numbers on to the static library of the crate `column_c`, and makes room for what it answers; nothing of the
-//! format is decided in Rust. The library is compiled for x86-64.
+//! format is decided in Rust. The library is compiled for x86-64; for tests on other machines see `tools/native`.
 
-#[cfg(not(all(target_arch = "x86_64", target_pointer_width = "64")))]
+#[cfg(not(any(native_library, all(target_arch = "x86_64", target_pointer_width = "64"))))]
 compile_error!("libcolumn_c.a is x86-64 code");
 
 mod checks;

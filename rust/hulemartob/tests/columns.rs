@@ -214,7 +214,9 @@ fn sheets_are_kept_apart() {
 fn parts_that_do_not_fit() {
     let column = Column::open(&BITPACKED).unwrap();
     assert_eq!(column.row(3), refused(12, 0));
-    for (place, number) in [(0, 3), (1, u64::MAX - 19), (2, 0), (4, 1 << 32), (10, 1 << 32), (11, 1 << 32), (5, 6), (5, u64::MAX), (6, 2), (6, 0)] {
+    for (place, number) in
+        [(0, 3), (1, u64::MAX - 19), (2, 0), (4, 1 << 32), (10, 1 << 32), (11, 1 << 32), (5, 6), (5, u64::MAX), (6, 2), (6, 0)]
+    {
         let mut numbers = *column.numbers();
         numbers[place] = number;
         let made = Column::from_parts(&BITPACKED, numbers, vec![]);

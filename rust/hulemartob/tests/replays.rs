@@ -51,7 +51,9 @@ fn no_recording() {
     let refused = Err(Refusal { number: 19, value: 0 });
     let mut cut = one(0, 2, &[0, 2]);
     cut.pop();
-    for bytes in [vec![], vec![0; 15], cut, one(1, 2, &[0, 2]), one(u32::MAX, 2, &[0, 2]), words(&[1 << 27, 16, 0, 0]), words(&[0, 0, 1, 12])] {
+    for bytes in
+        [vec![], vec![0; 15], cut, one(1, 2, &[0, 2]), one(u32::MAX, 2, &[0, 2]), words(&[1 << 27, 16, 0, 0]), words(&[0, 0, 1, 12])]
+    {
         assert_eq!(column.replay(&bytes), refused);
         assert!(Recording::read(&bytes).is_err());
     }
