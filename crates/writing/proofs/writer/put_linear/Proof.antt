@@ -11,7 +11,7 @@ use Rattle.bitpacker.proofs.PackerLaws.{packed-few}
 use Rattle.stats.proofs.Heads.{head-few}
 use Rattle.stats.proofs.Described.{sound-of}
 use Rattle.line.proofs.LineBytes.{line-few}
-use Rattle.linear.proofs.Body.{fit-most}
+use Rattle.linear_estimator.proofs.Body.{fit-most}
 use Rattle.format.specs.Typed.{storedAs}
 use Rattle.writing.proofs.Sizes.{needed-1}
 use Rattle.writing.proofs.Serializing.{too-short, put-behind}
