@@ -110,19 +110,19 @@ fn opened_in(sheet: u32, numbers: usize, file: &[u8], at: usize, end: usize) -> 
 }
 
 // A record OPEN.
-pub(crate) fn open(file: &[u8], at: usize, end: usize) -> Outcome {
+pub fn open(file: &[u8], at: usize, end: usize) -> Outcome {
     opened_in(1, count_at(file, after(at, 1)), file, at, end)
 }
 
 // A record UNDER: the upper half of the word that OPEN has the table's length in names the sheet.
-pub(crate) fn under(file: &[u8], at: usize, end: usize) -> Outcome {
+pub fn under(file: &[u8], at: usize, end: usize) -> Outcome {
     let sheet = (word_at(file, after(at, 1)) >> 32) as u32;
     let room = half_at(file, after(at, 1)) as usize;
     opened_in(sheet, room, file, at, end)
 }
 
 // A record MADE, RUN or NARROW: the column of the record's own numbers is asked. Its table is as long as it is filled.
-pub(crate) fn made(file: &[u8], at: usize, end: usize) -> Outcome {
+pub fn made(file: &[u8], at: usize, end: usize) -> Outcome {
     let room = count_at(file, after(at, 14)) / 4;
     if BLOCKS < room {
         return nothing_asked(false);
