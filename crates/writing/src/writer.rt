@@ -1,5 +1,4 @@
 // Writing the column of a codec: whether it has room, the code byte, and the body behind it.
-ghost use mathlib.Core.Path.{_≡_};
 ghost use mathlib.Core.List.{_∷_};
 ghost use lib.ListN.{length};
 ghost use Rattle.format.specs.Bodies.{bitpacked, linear, blockwise, columnBy};

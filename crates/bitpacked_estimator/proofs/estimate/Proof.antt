@@ -3,7 +3,7 @@
 use native.Mathlib.Omega.{arith}
 use Rattle.format.proofs.Widths.{width-most}
 use Rattle.bitpacker.proofs.PackerLaws.{packed-few}
-use Rattle.stats.proofs.Heads.{head-few}
+use Rattle.format.proofs.Spellings.{head-few}
 use borrow.Author.Needs.{needs}
 use Rattle.bitpacked_estimator.proofs.estimate.Statement.{statement}
 use Rattle.bitpacked_estimator.proofs.estimate.Tie as tie

@@ -2,8 +2,7 @@
 -- Assumes nothing.
 use native.Mathlib.Omega.{arith}
 use Rattle.bitpacker.proofs.PackerLaws.{packed-few}
-use Rattle.stats.proofs.Heads.{head-few}
-use Rattle.line.proofs.LineBytes.{line-few}
+use Rattle.format.proofs.Spellings.{head-few, line-few}
 use borrow.Author.Needs.{needs}
 use Rattle.linear_estimator.proofs.estimate.Statement.{statement}
 use Rattle.linear_estimator.proofs.estimate.Tie as tie
