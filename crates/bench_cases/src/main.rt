@@ -1,7 +1,5 @@
 // Replays the case files: asks every call what they ask, compares all that it answers and all that it may change, and prints what was run and what
 // differs. tools/answers/README.md says how the files are laid out and where their answers come from.
-mod columns;
-
 ghost use Prim.Native.Nat.{_≤_};
 use libc::STDOUT_FILENO;
 use stored::answers::Outcome;
@@ -75,11 +73,11 @@ fn put_count(count: u64, of: &[u8]) {
 fn record(file: &[u8], at: usize, end: usize) -> Outcome {
     match word_at(file, at) % 256 {
         1 => stored_lists::list(file, at, end),
-        2 => columns::open(file, at, end),
-        3 => columns::made(file, at, end),
-        4 => columns::under(file, at, end),
-        5 => columns::made(file, at, end),
-        6 => columns::made(file, at, end),
+        2 => stored_columns::open(file, at, end),
+        3 => stored_columns::made(file, at, end),
+        4 => stored_columns::under(file, at, end),
+        5 => stored_columns::made(file, at, end),
+        6 => stored_columns::made(file, at, end),
         _ => nothing_asked(false),
     }
 }

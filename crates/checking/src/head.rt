@@ -38,5 +38,5 @@ pub(crate) fn answer(kind: Kind, column: Column, values: &[u64], w: Walk) -> Che
     if (w.at as usize) < values.len() {
         return Checked::Unequal { row: w.at };
     }
-    judge(column, stats::collect(kind, values))
+    judge(column, stats_collector::collect(kind, values))
 }

@@ -32,11 +32,8 @@ use Rattle.format.proofs.Heads.{writtenHead, countIn, read-head}
 use Rattle.format.proofs.Statistics.{count-back}
 use Rattle.format.proofs.Laid.{opened-laid, opened-whole}
 use Rattle.format.proofs.Rows.{valueOf, row-answers}
-use Rattle.format.proofs.RoundTrip.{RoundTrips}
 use Rattle.format.proofs.Writes.{written-as}
-use Rattle.format.proofs.Bitpacked.{bitpacked-round}
-use Rattle.format.proofs.Linear.{linear-round}
-use Rattle.format.proofs.Blockwise.{blockwise-round}
+use Rattle.format.proofs.Demand2.{any-codec}
 use Rattle.format.specs.Comparing.{equalAnswers}
 use Rattle.format.specs.Checking.{Reason, Reason.minimum, Reason.gcd, Reason.maximum, Verdict, Verdict.passed, Verdict.failed, firstUnequal, byRow, judgedHead, judged, checked}
 
@@ -141,12 +138,6 @@ unfolding body bitpacked linear blockwise
 written-head zero vs each few = read-head 0 vs _ each few
 written-head (suc zero) vs each few = read-head 1 vs _ each few
 written-head (suc (suc c)) vs each few = read-head (suc (suc c)) vs _ each few
-
-any-codec : (codec : ℕ) → codec ≤ 2 → RoundTrips codec
-any-codec zero h = bitpacked-round
-any-codec (suc zero) h = linear-round
-any-codec (suc (suc zero)) h = blockwise-round
-any-codec (suc (suc (suc codec))) h = absurd (omega arith)
 
 -- whatever is written from a list is passed for it, with any table that has room for its blocks
 pub written-passed : (vs cs bytes : List ℕ) (size room : ℕ) → AllBelow (2 ^ 64) vs → written vs cs size ≡ value bytes → blockCount (length vs) ≤ room

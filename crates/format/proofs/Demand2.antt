@@ -30,7 +30,7 @@ use Rattle.format.proofs.Linear.{linear-round}
 use Rattle.format.proofs.Blockwise.{blockwise-round}
 
 -- a known codec is one of three
-any-codec : (codec : ℕ) → codec ≤ 2 → RoundTrips codec
+pub any-codec : (codec : ℕ) → codec ≤ 2 → RoundTrips codec
 any-codec zero h = bitpacked-round
 any-codec (suc zero) h = linear-round
 any-codec (suc (suc zero)) h = blockwise-round

@@ -137,9 +137,9 @@ nearest-least n u = go (ltb (2 * (n % u)) u) (ltb u (2 * (n % u)))
     go false false = omega arith
 
 -- by the power p of the leading bit
-between : (n p : ℕ) → bitLength n ≡ p + 1 → (2 ^ p ≤ inF32 n) × (inF32 n ≤ 2 ^ (p + 1))
+about-power : (n p : ℕ) → bitLength n ≡ p + 1 → (2 ^ p ≤ inF32 n) × (inF32 n ≤ 2 ^ (p + 1))
 unfolding inF32
-between n p e = ⊎-elim narrow wide (below-or p 24)
+about-power n p e = ⊎-elim narrow wide (below-or p 24)
   where
     low : 2 ^ p ≤ n
     low = omega (arith, bitLength-tight n, subst (λ (b : ℕ). 2 ^ b ≡ 2 ^ p * 2) (sym e) (pow-add 2 p 1))
@@ -190,7 +190,7 @@ whole-table i h = ap bound (sym (zero-add i))
 exponent-reached : (gcd : ℕ) → 0 < gcd → Reached (inF32 gcd) (exponentOf gcd)
 unfolding exponentOf
 exponent-reached gcd h =
-    let some : 1 ≤ inF32 gcd = le-trans (pow-pos (plainExponent gcd)) (between gcd (plainExponent gcd) (leading gcd h) .0) in
+    let some : 1 ≤ inF32 gcd = le-trans (pow-pos (plainExponent gcd)) (about-power gcd (plainExponent gcd) (leading gcd h) .0) in
     noted (inF32 gcd) 0 0 powerBounds whole-table (reached-under (inF32 gcd) 0 (lit≤ tt) some)
 
 reached-most : (gcd k : ℕ) → k ≤ 64 → Reached (inF32 gcd) k → k ≤ exponentOf gcd
@@ -219,7 +219,7 @@ exponent-exactly gcd k some h = go (reaches (inF32 gcd) (bound k)) refl
 pub exponent-near : (gcd : ℕ) → 0 < gcd → gcd < 2 ^ 64 → (plainExponent gcd ≤ exponentOf gcd) × (exponentOf gcd ≤ plainExponent gcd + 1)
 exponent-near gcd some h =
     let p = plainExponent gcd in
-    let round = between gcd p (leading gcd some) in
+    let round = about-power gcd p (leading gcd some) in
     let few : bitLength gcd ≤ 64 = bitLength-most gcd h in
     (reached-most gcd p (omega arith) (reached-under (inF32 gcd) p (omega arith) (round .0)), most (exponentOf gcd) (exponent-most gcd) (exponent-reached gcd some) (round .1))
   where

@@ -10,7 +10,6 @@ use native.Mathlib.Nat.{not-suc-le-zero, le-of-suc-le-suc, zero-lt-suc, mul-le-m
 use native.Mathlib.Omega.{arith}
 use lib.ListN.{length, take, drop, getD, length-append, length-map, length-take, length-drop}
 use lib.Seq.{getD-take, getD-drop}
-use Rattle.format.specs.declared.Line.{Line}
 use Rattle.format.specs.declared.ColumnStats.{ColumnStats}
 use Rattle.format.specs.Word.{bytesFor, modAdd, modSub, AllBelow}
 use Rattle.format.specs.Varint.{spell, spellIn}
@@ -33,6 +32,7 @@ use Rattle.format.proofs.Writes.{written-as}
 use Rattle.format.proofs.Bitpacked.{bitpacked-size}
 use Rattle.format.proofs.Linear.{linear-size}
 use Rattle.format.proofs.BlockBytes.{shares}
+use Rattle.format.proofs.Spellings.{line-length}
 
 -- ---- a block of moved values
 
@@ -47,10 +47,6 @@ spell-nine v w = omega (arith, spell-ten v, spell-some 9 w)
 -- more bits fill no fewer bytes
 bytes-mono : (a b : ℕ) → a ≤ b → bytesFor a ≤ bytesFor b
 bytes-mono a b h = omega arith
-
-pub line-length : (l : Line) → length (spellLine l) ≡ length (spell (l .slope)) + length (spell (l .intercept))
-unfolding spellLine
-line-length l = length-append (spell (l .slope)) (spell (l .intercept))
 
 -- of one value the line stays, and the residual is the value
 alone-width : (y : ℕ) → y < 2 ^ 64 → blockWidth (y ∷ []) ≡ width y

@@ -60,6 +60,7 @@ pub mod Checks
 pub mod TypedDemands
 pub mod Blame
 pub mod Example
+pub mod Spellings
 pub mod Lengths
 pub mod MostBytes
 -- cases, computed

@@ -14,10 +14,8 @@ use lib.Dec.{leb}
 use lib.ListN.{length, getD, length-append, length-map}
 use borrow.Author.Tests.{le-leb}
 use Rattle.format.specs.declared.ColumnStats.{ColumnStats}
-use Rattle.format.specs.declared.Line.{Line}
 use Rattle.format.specs.Outcome.{Outcome, Outcome.value, Outcome.refusal}
 use Rattle.format.specs.Word.{bytesFor}
-use Rattle.format.specs.Varint.{spell}
 use Rattle.format.specs.Packing.{width, packed, numBytes}
 use Rattle.format.specs.Stats.{statsOf, countOf, spellHead}
 use Rattle.format.specs.Line.{spellLine, residuals}
@@ -27,34 +25,16 @@ use Rattle.format.specs.Lengths.{WroteBy, mostBytes, reserve, Bounded, R
 use Rattle.format.proofs.Lists.{below-or}
 use Rattle.format.proofs.Outcomes.{not-value, value-same, by-demand}
 use Rattle.format.proofs.Widths.{width-most}
-use Rattle.format.proofs.Varints.{spell-ten}
 use Rattle.format.proofs.Packing.{length-packed}
 use Rattle.format.proofs.Gathering.{length-numBytes}
 use Rattle.format.proofs.Lines.{residuals-length}
 use Rattle.format.proofs.Choosing.{Earliest}
 use Rattle.format.proofs.Writes.{sizes, Chosen, Verdict, Verdict.many, Verdict.unknown, Verdict.nothing, Verdict.writes, verdict, said, written-said, written-as}
 use Rattle.format.proofs.BlockBytes.{areas-few, entries-few}
+use Rattle.format.proofs.Spellings.{head-few, line-few}
 use Rattle.format.proofs.Lengths.{exact, near}
 
 -- ---- the parts
-
-head-most : (s : ColumnStats) → length (spellHead s) ≤ 40
-unfolding spellHead
-head-most s =
-    omega (
-      arith,
-      length-append (spell (s .minimum)) (spell (s .gcd) ++ (spell (countOf s) ++ spell (s .rows))),
-      length-append (spell (s .gcd)) (spell (countOf s) ++ spell (s .rows)),
-      length-append (spell (countOf s)) (spell (s .rows)),
-      spell-ten (s .minimum),
-      spell-ten (s .gcd),
-      spell-ten (countOf s),
-      spell-ten (s .rows),
-    )
-
-line-most : (l : Line) → length (spellLine l) ≤ 20
-unfolding spellLine
-line-most l = omega (arith, length-append (spell (l .slope)) (spell (l .intercept)), spell-ten (l .slope), spell-ten (l .intercept))
 
 -- at most eight bytes a row
 area-most : (n rows : ℕ) → bytesFor (width n * rows) ≤ 8 * rows
@@ -68,7 +48,7 @@ bitpacked-most s vs =
     let bits = width (countOf s) in
     let ns = map (normalised s) vs in
     let area : length (packed bits ns) ≡ bytesFor (bits * length vs) = length-packed bits ns ∙ ap (λ (n : ℕ). bytesFor (bits * n)) (length-map vs (normalised s)) in
-    omega (arith, length-append (spellHead s) (packed bits ns), head-most s, area-most (countOf s) (length vs))
+    omega (arith, length-append (spellHead s) (packed bits ns), head-few s, area-most (countOf s) (length vs))
 
 linear-most : (s : ColumnStats) (vs : List ℕ) → length (linear s vs) ≤ 61 + 8 * length vs
 unfolding linear linearWidth
@@ -77,7 +57,7 @@ linear-most s vs =
     let line = linearLine vs in
     let area : length (packed bits (residuals line vs)) ≡ bytesFor (bits * length vs) = length-packed bits (residuals line vs) ∙ ap (λ (n : ℕ). bytesFor (bits * n)) (residuals-length line vs) in
     let few : bytesFor (bits * length vs) ≤ 8 * length vs = area-most _ (length vs) in
-    omega (arith, length-append (spellHead s) (spellLine line ++ (bits ∷ packed bits (residuals line vs))), length-append (spellLine line) (bits ∷ packed bits (residuals line vs)), head-most s, line-most line)
+    omega (arith, length-append (spellHead s) (spellLine line ++ (bits ∷ packed bits (residuals line vs))), length-append (spellLine line) (bits ∷ packed bits (residuals line vs)), head-few s, line-few line)
 
 blockwise-most : (s : ColumnStats) (vs : List ℕ) → length (blockwise s vs) ≤ 44 + 8 * length vs + 21 * blockCount (length vs)
 unfolding blockwise
@@ -88,7 +68,7 @@ blockwise-most s vs =
     let long : length ns ≡ length vs = length-map vs (normalised s) in
     let few : length areas ≤ 8 * length vs = subst (λ (n : ℕ). length areas ≤ 8 * n) long (areas-few ns) in
     let entries : length foot ≤ 21 * blockCount (length vs) = subst (λ (n : ℕ). length foot ≤ 21 * blockCount n) long (entries-few ns) in
-    omega (arith, length-append (spellHead s) (areas ++ (foot ++ numBytes 4 (length foot))), length-append areas (foot ++ numBytes 4 (length foot)), length-append foot (numBytes 4 (length foot)), length-numBytes 4 (length foot), head-most s)
+    omega (arith, length-append (spellHead s) (areas ++ (foot ++ numBytes 4 (length foot))), length-append areas (foot ++ numBytes 4 (length foot)), length-append foot (numBytes 4 (length foot)), length-numBytes 4 (length foot), head-few s)
 
 column-most : (codec : ℕ) (vs : List ℕ) → length (columnBy codec vs) ≤ mostBytes codec (length vs)
 unfolding mostBytes body
@@ -116,7 +96,7 @@ chosen-of vs cs bytes room e = go (verdict vs cs) (sym (written-said vs cs room 
 -- Bitpacked's own size
 bitpacked-capped : (vs : List ℕ) → (n : ℕ) × (sizeOf 0 (statsOf vs) vs ≡ some n) × (1 + n ≤ mostBytes 0 (length vs))
 unfolding sizeOf statsOf mostBytes
-bitpacked-capped vs = (_, refl, omega (arith, head-most (statsOf vs), area-most (countOf (statsOf vs)) (length vs)))
+bitpacked-capped vs = (_, refl, omega (arith, head-few (statsOf vs), area-most (countOf (statsOf vs)) (length vs)))
 
 pub capped : Capped
 capped vs cs bytes room listed e =

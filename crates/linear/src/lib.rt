@@ -1,3 +1,2 @@
 // Linear: one line trained on the first values, each value's residual over it packed at one width.
 pub mod reader;
-pub mod writer;

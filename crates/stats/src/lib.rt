@@ -1,4 +1,4 @@
-// The statistics of a column: least and greatest value, gcd of the differences, number of rows; and the head that holds them.
+// The head of a column, which holds its statistics, and what is worked out of them: the bounds, and the value so many steps above the least.
 ghost use mathlib.Core.Path.{_≡_};
 ghost use Prim.Native.Nat.{_+_, _*_, _/_, _^_, _≤_, _<_};
 ghost use lib.Dec.{ltb};
@@ -7,8 +7,7 @@ ghost use Rattle.format.specs.Outcome.{Wrote};
 ghost use Rattle.format.specs.Refusals.{rowMeaning};
 ghost use Rattle.format.specs.Varint.{firstOf};
 ghost use Rattle.format.specs.Reading.{scaled};
-ghost use Rattle.format.specs.Stats.{gcd, distance, statsOf, countOf, spellHead, readHead};
-ghost use Rattle.format.specs.Typed.{storedAs};
+ghost use Rattle.format.specs.Stats.{countOf, spellHead, readHead};
 ghost use Rattle.stats.specs.Meaning.{headMeaning};
 ghost use Rattle.stats.specs.Asked.{Sound};
 use format::Column;
@@ -16,76 +15,10 @@ use format::ColumnRow;
 use format::ColumnStats;
 use format::Field;
 use format::Head;
-use format::Kind;
 use format::Refusal;
 use format::RowRead;
 use format::Spelling;
 use vint::VintRead;
-
-// The greatest common divisor, by Euclid's rule.
-fn gcd_of(a: u64, b: u64) -> u64
-    ensures { λ r. ⌜ r ≡ gcd a b ⌝ }
-{
-    let mut large = a;
-    let mut small = b;
-    while small != 0 {
-        let rest = large % small;
-        large = small;
-        small = rest;
-    }
-    large
-}
-
-// How far two numbers are apart.
-fn apart(a: u64, b: u64) -> u64
-    ensures { λ r. ⌜ r ≡ distance a b ⌝ }
-{
-    if a < b { b - a } else { a - b }
-}
-
-// The gcd of a distance and of the distances before it. Once it is 1 it stays, and the distance is not worked out.
-fn joined(a: u64, b: u64, g: u64) -> u64
-    ensures { λ r. ⌜ r ≡ gcd (distance a b) g ⌝ }
-{
-    if g == 1 {
-        return 1;
-    }
-    gcd_of(apart(a, b), g)
-}
-
-// Internal: asks for fewer than 2^32 values. The statistics of the numbers that they are stored as.
-pub fn collect(kind: Kind, values: &[u64]) -> ColumnStats
-    requires { ⌜ length (now values) < 2 ^ 32 ⌝ }
-    ensures { λ r. ⌜ r ≡ statsOf (storedAs kind (now (values .entry))) ⌝ }
-{
-    let n = values.len();
-    if n == 0 {
-        return ColumnStats {
-            minimum: 0,
-            maximum: 0,
-            gcd: 1,
-            rows: 0,
-        };
-    }
-    let first = monotonic_mapping::stored_of(kind, values[0]);
-    let mut lo = first;
-    let mut hi = first;
-    let mut g = 0;
-    let mut i = 1;
-    while i < n {
-        let v = monotonic_mapping::stored_of(kind, values[i]);
-        lo = word::lesser(lo, v);
-        hi = word::larger(hi, v);
-        g = joined(v, first, g);
-        i += 1;
-    }
-    ColumnStats {
-        minimum: lo,
-        maximum: hi,
-        gcd: word::larger(g, 1),
-        rows: n as u32,
-    }
-}
 
 // Internal: asks for a gcd above 0 and a minimum that is not above the maximum. How many steps of the gcd lead from the minimum to the maximum.
 pub fn count_of(stats: ColumnStats) -> u64

@@ -38,7 +38,7 @@ pub fn column_stats_as(kind: Kind, values: &[u64]) -> Stated
     if 0xffff_ffff < values.len() {
         return Stated::Refused(Refusal::TooManyValues);
     }
-    Stated::Stats(stats::collect(kind, values))
+    Stated::Stats(stats_collector::collect(kind, values))
 }
 
 // Writes the values by the listed codec that takes least.
@@ -59,7 +59,7 @@ pub fn serialize_as(kind: Kind, values: &[u64], codecs: &[u8], out: &mut [u8]) -
     if let Place::At(place) = writing::choice::unknown(codecs) {
         return Written::Refused(Refusal::UnknownCodec { place });
     }
-    let stats = stats::collect(kind, values);
+    let stats = stats_collector::collect(kind, values);
     match writing::choice::choose(kind, values, stats, codecs) {
         Best::Nothing => Written::Refused(Refusal::NoCodecApplies),
         Best::Least { codec, size: _ } => writing::writer::put(kind, values, stats, codec, out),

@@ -3,11 +3,11 @@
 //
 // Reading takes spellings that are longer than they need be, of up to ten bytes, and says so; writing gives the shortest.
 ghost use mathlib.Core.Path.{_≡_};
-ghost use Prim.Native.Nat.{_+_, _≤_};
+ghost use Prim.Native.Nat.{_+_, _^_, _≤_, _<_};
 ghost use lib.ListN.{length};
 ghost use Rattle.format.specs.Outcome.{Wrote};
 ghost use Rattle.format.specs.Varint.{readVarint, spell};
-ghost use Rattle.vint.specs.Meaning.{vintMeaning, spelledBy};
+ghost use Rattle.vint.specs.Meaning.{vintMeaning, spelledBy, tenthAt};
 use format::Field;
 use format::Refusal;
 use format::Spelling;
@@ -33,8 +33,37 @@ fn spelled(at: usize, others: usize, last: u8) -> Spelling
     Spelling::Longer { offset: at }
 }
 
+// Internal: asks for a number below 2^63, which nine bytes from an offset on stand for; none of them ends the varint there. The byte at `pos`, the tenth, must:
+// it may add one bit.
+fn tenth(s: &[u8], at: usize, number: u64, pos: usize) -> VintRead
+    requires { ⌜ number < 2 ^ 63 ⌝ }
+    ensures { λ r. ⌜ vintMeaning r ≡ tenthAt (now (s .entry)) at number pos ⌝ }
+{
+    if s.len() <= pos {
+        return VintRead::Refused(Refusal::BadField { offset: at });
+    }
+    let b = s[pos];
+    if b == 128 {
+        return VintRead::Value(Field {
+            value: number,
+            next: pos + 1,
+            used: 10,
+            spelling: Spelling::Longer { offset: at },
+        });
+    }
+    if b == 129 {
+        return VintRead::Value(Field {
+            value: number + 0x8000_0000_0000_0000,
+            next: pos + 1,
+            used: 10,
+            spelling: Spelling::Shortest,
+        });
+    }
+    VintRead::Refused(Refusal::BadField { offset: at })
+}
+
 // The varint at an offset. It is refused where the bytes end before it does, where no byte of ten ends it, and where it is
-// 2^64 or more: nine bytes hold 63 bits, so a tenth may add one bit and must be the last.
+// 2^64 or more: nine bytes hold 63 bits.
 pub fn read(s: &[u8], at: usize) -> VintRead
     ensures { λ r. ⌜ vintMeaning r ≡ readVarint (now (s .entry)) at ⌝ }
 {
@@ -61,27 +90,7 @@ pub fn read(s: &[u8], at: usize) -> VintRead
         pos += 1;
         used += 1;
     }
-    if s.len() <= pos {
-        return VintRead::Refused(Refusal::BadField { offset: at });
-    }
-    let b = s[pos];
-    if b == 128 {
-        return VintRead::Value(Field {
-            value: number,
-            next: pos + 1,
-            used: used + 1,
-            spelling: spelled(at, used, b),
-        });
-    }
-    if b == 129 {
-        return VintRead::Value(Field {
-            value: number + 0x8000_0000_0000_0000,
-            next: pos + 1,
-            used: used + 1,
-            spelling: spelled(at, used, b),
-        });
-    }
-    VintRead::Refused(Refusal::BadField { offset: at })
+    tenth(s, at, number, pos)
 }
 
 // How many bytes the shortest spelling of a number takes.

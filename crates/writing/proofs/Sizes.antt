@@ -19,10 +19,10 @@ use Rattle.format.specs.Line.{spellLine}
 use Rattle.format.specs.Bodies.{normalised, bitpacked, linear, blockwise, body}
 use Rattle.format.specs.Writing.{sized, sizeOf}
 use Rattle.stats.specs.Asked.{Describes}
-use Rattle.bitpacked.proofs.Body as packed
-use Rattle.linear.specs.declared.writer.Fit.{Fit}
-use Rattle.linear.specs.Writer.{Fits}
-use Rattle.linear.proofs.Body as lined
+use Rattle.bitpacked_estimator.proofs.Body as packed
+use Rattle.linear_estimator.specs.declared.Fit.{Fit}
+use Rattle.linear_estimator.specs.Writer.{Fits}
+use Rattle.linear_estimator.proofs.Body as lined
 use Rattle.blockwise_estimator.specs.declared.Sizes.{Sizes}
 use Rattle.blockwise_estimator.specs.Writer.{Takes}
 use Rattle.blockwise_estimator.proofs.Body as blocked

@@ -11,7 +11,7 @@ use Rattle.format.specs.declared.ColumnStats.{ColumnStats}
 use Rattle.format.specs.Outcome.{Outcome, Outcome.value, Outcome.refusal}
 use Rattle.format.specs.Listing.{codeOf}
 use Rattle.format.specs.Writing.{Sized, sized, sizeOf, smaller}
-use Rattle.linear.specs.Writer.{Fits}
+use Rattle.linear_estimator.specs.Writer.{Fits}
 use Rattle.writing.specs.declared.choice.Best.{Best}
 use Rattle.writing.specs.declared.choice.Best.the-variants.{Nothing, Least}
 use Rattle.writing.specs.declared.choice.Met.{Met}

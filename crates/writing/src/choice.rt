@@ -77,8 +77,8 @@ fn sized_linear(kind: Kind, values: &[u64], stats: ColumnStats) -> Best
     if values.len() < 512 {
         return Best::Nothing;
     }
-    let fit = linear::writer::fit_of(kind, values);
-    let size = linear::writer::estimate(stats, fit) as u64;
+    let fit = linear_estimator::fit_of(kind, values);
+    let size = linear_estimator::estimate(stats, fit) as u64;
     let line = fit.line;
     let codec = Codec::Linear(line, fit.bits);
     Best::Least { codec, size }
@@ -92,7 +92,7 @@ fn sized(kind: Kind, values: &[u64], stats: ColumnStats, code: u8) -> Best
 {
     match code {
         0 => {
-            let size = bitpacked::writer::estimate(stats) as u64;
+            let size = bitpacked_estimator::estimate(stats) as u64;
             Best::Least {
                 codec: Codec::Bitpacked,
                 size,

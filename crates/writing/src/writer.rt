@@ -1,12 +1,11 @@
 // Writing the column of a codec: whether it has room, the code byte, and the body behind it.
-ghost use mathlib.Core.Path.{_≡_};
 ghost use mathlib.Core.List.{_∷_};
 ghost use lib.ListN.{length};
 ghost use Rattle.format.specs.Bodies.{bitpacked, linear, blockwise, columnBy};
 ghost use Rattle.format.specs.Listing.{codeOf};
 ghost use Rattle.format.specs.Typed.{storedAs};
 ghost use Rattle.stats.specs.Asked.{Describes};
-ghost use Rattle.linear.specs.Writer.{Fits};
+ghost use Rattle.linear_estimator.specs.Writer.{Fits};
 ghost use Rattle.writing.specs.Choice.{AptCodec};
 ghost use Rattle.writing.specs.Writing.{lent};
 ghost use Rattle.format.specs.Calls.{SerializedAs};
@@ -15,19 +14,19 @@ use format::ColumnStats;
 use format::Kind;
 use format::Refusal;
 use format::Written;
-use linear::writer::Fit;
+use linear_estimator::Fit;
 
 // A Bitpacked column, where there is room for it.
 fn put_bitpacked(kind: Kind, values: &[u64], stats: ColumnStats, out: &mut [u8]) -> Written
     requires { ⌜ Describes stats (storedAs kind (now values)) ⌝ }
     ensures { λ r. ⌜ SerializedAs (lent (0 ∷ bitpacked stats (storedAs kind (now (values .entry)))) (length (now (out .entry)))) r (now (out .entry)) (now (out .exit)) ⌝ }
 {
-    let needed = 1 + bitpacked::writer::estimate(stats);
+    let needed = 1 + bitpacked_estimator::estimate(stats);
     if out.len() < needed {
         return Written::Refused(Refusal::OutputShort { needed });
     }
     out[0] = 0;
-    Written::Length(bitpacked::writer::serialize(kind, values, stats, out, 1))
+    Written::Length(bitpacked_estimator::serialize(kind, values, stats, out, 1))
 }
 
 // A Linear column, where there is room for it.
@@ -36,12 +35,12 @@ fn put_linear(kind: Kind, values: &[u64], stats: ColumnStats, fit: Fit, out: &mu
     requires { ⌜ Fits (storedAs kind (now values)) fit ⌝ }
     ensures { λ r. ⌜ SerializedAs (lent (1 ∷ linear stats (storedAs kind (now (values .entry)))) (length (now (out .entry)))) r (now (out .entry)) (now (out .exit)) ⌝ }
 {
-    let needed = 1 + linear::writer::estimate(stats, fit);
+    let needed = 1 + linear_estimator::estimate(stats, fit);
     if out.len() < needed {
         return Written::Refused(Refusal::OutputShort { needed });
     }
     out[0] = 1;
-    Written::Length(linear::writer::serialize(kind, values, stats, fit, out, 1))
+    Written::Length(linear_estimator::serialize(kind, values, stats, fit, out, 1))
 }
 
 // A Blockwise column, where there is room for it.

@@ -1,7 +1,7 @@
 -- `body_len` meets its contract: a head of at most forty bytes and small sizes add up to no more than a usize holds.
 -- Assumes nothing.
 use native.Mathlib.Omega.{arith}
-use Rattle.stats.proofs.Heads.{head-few}
+use Rattle.format.proofs.Spellings.{head-few}
 use borrow.Author.Needs.{needs}
 use Rattle.blockwise_estimator.proofs.body_len.Statement.{statement}
 use Rattle.blockwise_estimator.proofs.body_len.Tie as tie

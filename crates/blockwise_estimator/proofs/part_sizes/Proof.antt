@@ -2,7 +2,7 @@
 -- Assumes nothing.
 use mathlib.Core.Path.{refl, sym}
 use native.Mathlib.Omega.{arith}
-use Rattle.line.proofs.LineBytes.{line-few}
+use Rattle.format.proofs.Spellings.{line-few}
 use Rattle.format.proofs.Lists.{front-length}
 use Rattle.blockwise_estimator.proofs.Parts.{part-of, fit-of, part-long, fit-most, takes-of}
 use borrow.Author.Needs.{needs}

@@ -2,7 +2,7 @@
 -- Assumes nothing.
 use native.Mathlib.Omega.{arith}
 use Rattle.format.proofs.Varints.{spell-ten}
-use Rattle.format.proofs.Lengths.{line-length}
+use Rattle.format.proofs.Spellings.{line-length}
 use borrow.Author.Needs.{needs}
 use Rattle.line.proofs.len.Statement.{statement}
 use Rattle.line.proofs.len.Tie as tie

@@ -3,7 +3,7 @@
 use native.Mathlib.Omega.{arith}
 use Rattle.format.specs.Line.{spellLine}
 use Rattle.format.proofs.Stores.{wrote-then}
-use Rattle.format.proofs.Lengths.{line-length}
+use Rattle.format.proofs.Spellings.{line-length}
 use borrow.Author.Needs.{needs}
 use Rattle.line.proofs.write.Statement.{statement}
 use Rattle.line.proofs.write.Tie as tie

@@ -2,7 +2,7 @@
 -- Assumes nothing.
 use native.Mathlib.Omega.{arith}
 use Rattle.format.proofs.Varints.{spell-ten}
-use Rattle.stats.proofs.Heads.{head-length}
+use Rattle.format.proofs.Spellings.{head-length}
 use borrow.Author.Needs.{needs}
 use Rattle.stats.proofs.head_len.Statement.{statement}
 use Rattle.stats.proofs.head_len.Tie as tie

@@ -10,7 +10,7 @@ use Rattle.format.specs.Outcome.{Wrote}
 use Rattle.format.specs.Varint.{spell}
 use Rattle.format.specs.Stats.{countOf, spellHead}
 use Rattle.format.proofs.Stores.{wrote-then}
-use Rattle.stats.proofs.Heads.{head-length}
+use Rattle.format.proofs.Spellings.{head-length}
 use borrow.Author.Needs.{needs}
 use Rattle.stats.proofs.head_write.Statement.{statement}
 use Rattle.stats.proofs.head_write.Tie as tie

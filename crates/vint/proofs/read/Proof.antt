@@ -4,7 +4,8 @@ use mathlib.Core.Path.{sym}
 use Prim.Native.Nat.{_+_, _-_, _*_, _^_, _<_}
 use native.Mathlib.Omega.{arith}
 use borrow.Author.Needs.{needs}
-use Rattle.format.proofs.VarintLoops.{ReadingVarint, reading-starts, reading-ends, reading-more, reading-last, tenth-scale, tenth-ends, tenth-refused, scale-small, digit-fits}
+use Rattle.format.proofs.VarintLoops.{ReadingVarint, reading-starts, reading-ends, reading-more, reading-last, tenth-scale, scale-small, digit-fits}
+use Rattle.vint.proofs.LastBytes.{tenth-is}
 use Rattle.vint.proofs.read.Statement.{statement}
 use Rattle.vint.proofs.read.Tie as tie
 
@@ -42,17 +43,17 @@ last-digit c =
 next-digit : (c : tie.Else2 Inv-loop μ-loop) → at-next c .loop .number + c .before .wide .result * at-next c .loop .scale < 2 ^ 63
 next-digit c = digit-fits (at-next c .loop .inv) _ (search needs) (c .if2 .left)
 
-mul-t16 : tie.Need-mul-t16 Inv-loop μ-loop
-mul-t16 c = omega (arith, last-digit c)
+mul-t15 : tie.Need-mul-t15 Inv-loop μ-loop
+mul-t15 c = omega (arith, last-digit c)
+
+add-t16 : tie.Need-add-t16 Inv-loop μ-loop
+add-t16 c = omega (arith, last-digit c)
 
 add-t17 : tie.Need-add-t17 Inv-loop μ-loop
-add-t17 c = omega (arith, last-digit c)
+add-t17 c = search needs
 
 add-t18 : tie.Need-add-t18 Inv-loop μ-loop
 add-t18 c = search needs
-
-add-t19 : tie.Need-add-t19 Inv-loop μ-loop
-add-t19 c = search needs
 
 spelled-requires : tie.Need-spelled-requires Inv-loop μ-loop
 spelled-requires c κs = search needs
@@ -86,53 +87,13 @@ loop-again : tie.Need-loop-again Inv-loop μ-loop
 loop-again c =
     reading-more (at-next c .loop .inv) (c .before .wide .result) (c .before .wide .ensures) (search needs) (search needs) (c .if2 .left)
 
+tenth-requires : tie.Need-tenth-requires Inv-loop μ-loop
+tenth-requires c κs = omega (arith, c .before .loop .inv .small, tenth-scale (c .before .loop .inv) (c .loop-test .left))
+
 returns-3 : tie.Need-returns-3 Inv-loop μ-loop
-returns-3 c = sym (reading-ends (c .before .before .loop .inv) (c .if3 .taken))
-
-shared-slice-read-b : tie.Need-shared-slice-read-b Inv-loop μ-loop
-shared-slice-read-b c = search needs
-
-add-t28 : tie.Need-add-t28 Inv-loop μ-loop
-add-t28 c = search needs
-
-add-t29 : tie.Need-add-t29 Inv-loop μ-loop
-add-t29 c = search needs
-
-spelled-requires-2 : tie.Need-spelled-requires-2 Inv-loop μ-loop
-spelled-requires-2 c κs = search needs
-
-returns-4 : tie.Need-returns-4 Inv-loop μ-loop
-returns-4 c =
-    let k = c .before in
-    let after-loop = k .before .before .before in
-    rw (c .spelled2 .ensures)
-    (sym (tenth-ends (after-loop .before .loop .inv) _ 0 (after-loop .loop-test .left) (k .before .before .if3 .left) (k .if4 .taken) (omega arith) (omega arith)))
-
-add-t32 : tie.Need-add-t32 Inv-loop μ-loop
-add-t32 c =
-    let after-loop = c .before .before .before .before in
-    omega (arith, after-loop .before .loop .inv .small, tenth-scale (after-loop .before .loop .inv) (after-loop .loop-test .left))
-
-add-t33 : tie.Need-add-t33 Inv-loop μ-loop
-add-t33 c = search needs
-
-add-t34 : tie.Need-add-t34 Inv-loop μ-loop
-add-t34 c = search needs
-
-spelled-requires-3 : tie.Need-spelled-requires-3 Inv-loop μ-loop
-spelled-requires-3 c κs = search needs
-
-returns-5 : tie.Need-returns-5 Inv-loop μ-loop
-returns-5 c =
-    let k = c .before in
-    let after-loop = k .before .before .before .before in
-    rw (c .spelled3 .ensures)
-    (sym (tenth-ends (after-loop .before .loop .inv) _ 1 (after-loop .loop-test .left) (k .before .before .before .if3 .left) (k .if5 .taken) (omega arith) (omega arith)))
-
-returns-6 : tie.Need-returns-6 Inv-loop μ-loop
-returns-6 c =
-    let after-loop = c .before .before .before .before in
-    sym (tenth-refused (after-loop .before .loop .inv) (after-loop .loop-test .left) (c .before .before .before .if3 .left) (c .before .if4 .left) (c .if5 .left))
+returns-3 c =
+    let after-loop = c .before in
+    rw (c .tenth .ensures) (tenth-is (after-loop .before .loop .inv) (after-loop .loop-test .left))
 
 pub read-spec : {M : Type 1} → statement M
 read-spec =
@@ -144,10 +105,10 @@ read-spec =
     returns
     shared-slice-read-last
     wide-requires
-    mul-t16
+    mul-t15
+    add-t16
     add-t17
     add-t18
-    add-t19
     spelled-requires
     returns-2
     mul-number
@@ -157,15 +118,5 @@ read-spec =
     add-used
     loop-less
     loop-again
-    returns-3
-    shared-slice-read-b
-    add-t28
-    add-t29
-    spelled-requires-2
-    returns-4
-    add-t32
-    add-t33
-    add-t34
-    spelled-requires-3
-    returns-5
-    returns-6)
+    tenth-requires
+    returns-3)

@@ -2,7 +2,7 @@
 -- Assumes nothing.
 use denote.Ref.{now}
 use Rattle.stats.proofs.Described.{sound-of}
-use Rattle.linear.proofs.Body.{fit-most}
+use Rattle.linear_estimator.proofs.Body.{fit-most}
 use Rattle.format.specs.Typed.{storedAs}
 use Rattle.format.proofs.StoredLists.{stored-length}
 use Rattle.writing.proofs.Sizes.{sized-1, unsized-1}

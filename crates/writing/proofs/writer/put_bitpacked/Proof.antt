@@ -11,7 +11,7 @@ use Rattle.format.specs.Stats.{countOf}
 use Rattle.format.specs.Bodies.{bitpacked}
 use Rattle.format.proofs.Widths.{width-most}
 use Rattle.bitpacker.proofs.PackerLaws.{packed-few}
-use Rattle.stats.proofs.Heads.{head-few}
+use Rattle.format.proofs.Spellings.{head-few}
 use Rattle.stats.proofs.Described.{sound-of}
 use Rattle.format.specs.Typed.{storedAs}
 use Rattle.writing.proofs.Sizes.{needed-0}

@@ -7,7 +7,7 @@ use native.Mathlib.Omega.{arith}
 use denote.Ref.{now}
 use lib.ListN.{length, length-set}
 use Rattle.format.specs.Bodies.{blockwise}
-use Rattle.stats.proofs.Heads.{head-few}
+use Rattle.format.proofs.Spellings.{head-few}
 use Rattle.stats.proofs.Described.{sound-of, steps-length}
 use Rattle.blockwise_estimator.specs.Writer.{FewBytes}
 use Rattle.blockwise_estimator.proofs.Body.{above-of, takes-few}

@@ -8,10 +8,9 @@ use denote.Ref.{now}
 use lib.ListN.{length, length-set}
 use Rattle.format.specs.Bodies.{linear}
 use Rattle.bitpacker.proofs.PackerLaws.{packed-few}
-use Rattle.stats.proofs.Heads.{head-few}
+use Rattle.format.proofs.Spellings.{head-few, line-few}
 use Rattle.stats.proofs.Described.{sound-of}
-use Rattle.line.proofs.LineBytes.{line-few}
-use Rattle.linear.proofs.Body.{fit-most}
+use Rattle.linear_estimator.proofs.Body.{fit-most}
 use Rattle.format.specs.Typed.{storedAs}
 use Rattle.writing.proofs.Sizes.{needed-1}
 use Rattle.writing.proofs.Serializing.{too-short, put-behind}
