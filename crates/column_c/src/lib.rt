@@ -121,7 +121,7 @@ pub extern "C" fn hulemartob_narrow(
             return;
         }
     };
-    match u64_based::narrow(opened, first, count) {
+    match loading::narrow(opened, first, count) {
         Narrowed::Column(narrowed) => {
             *column = column_numbers(narrowed);
             *refusal = ACCEPTED;

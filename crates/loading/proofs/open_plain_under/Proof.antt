@@ -1,4 +1,4 @@
--- `u64_based::open_plain_under` meets its contract: opening, under the sheet.
+-- `loading::open_plain_under` meets its contract: opening, under the sheet.
 -- Assumes nothing.
 use mathlib.Core.Path.{ap, _∙_}
 use denote.Ref.{now}
@@ -6,9 +6,9 @@ use borrow.Author.Needs.{needs}
 use Rattle.format.specs.Opening.{opened}
 use Rattle.sheets.specs.Faults.{underAs}
 use Rattle.sheets.proofs.SheetNumbers.{under-columns}
-use Rattle.u64_based.proofs.Opens.{opened-within}
-use Rattle.u64_based.proofs.open_plain_under.Statement.{statement}
-use Rattle.u64_based.proofs.open_plain_under.Tie as tie
+use Rattle.loading.proofs.Opens.{opened-within}
+use Rattle.loading.proofs.open_plain_under.Statement.{statement}
+use Rattle.loading.proofs.open_plain_under.Tie as tie
 
 open-plain-requires : tie.Need-open-plain-requires
 open-plain-requires c κs = search needs

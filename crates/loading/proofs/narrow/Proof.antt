@@ -1,4 +1,4 @@
--- `u64_based::narrow` meets its contract: its tests are the definition's.
+-- `loading::narrow` meets its contract: its tests are the definition's.
 -- Assumes nothing.
 use Prim.Native.Nat.{_+_, _≤_}
 use mathlib.Core.Path.{_≡_, sym, _∙_}
@@ -8,8 +8,8 @@ use borrow.Author.Tests.{le-leb, lt-leb, leb-true, not-true, not-false}
 use Rattle.format.specs.Reading.{windowFits}
 use Rattle.format.specs.Windows.{narrowed}
 use borrow.Author.Needs.{needs}
-use Rattle.u64_based.proofs.narrow.Statement.{statement}
-use Rattle.u64_based.proofs.narrow.Tie as tie
+use Rattle.loading.proofs.narrow.Statement.{statement}
+use Rattle.loading.proofs.narrow.Tie as tie
 
 -- the function's entry
 abbrev entry : tie.Else1 → tie.Start

@@ -2,7 +2,7 @@
 ghost use mathlib.Core.Path.{_≡_};
 ghost use Rattle.format.specs.Refusals.{openedMeaning};
 ghost use Rattle.format.specs.Opening.{columnIn, openBody};
-ghost use Rattle.u64_based.specs.Opening.{tabled};
+ghost use Rattle.loading.specs.Opening.{tabled};
 use format::Codec;
 use format::Head;
 use format::Opened;

@@ -1,8 +1,8 @@
--- `u64_based::opening::table_rows` meets its contract: each arm is a case of `tabled`.
+-- `loading::opening::table_rows` meets its contract: each arm is a case of `tabled`.
 -- Assumes nothing.
 use borrow.Author.Needs.{needs}
-use Rattle.u64_based.proofs.opening.table_rows.Statement.{statement}
-use Rattle.u64_based.proofs.opening.table_rows.Tie as tie
+use Rattle.loading.proofs.opening.table_rows.Statement.{statement}
+use Rattle.loading.proofs.opening.table_rows.Tie as tie
 
 enum-known-opened : tie.Need-enum-known-opened
 enum-known-opened c = search needs

@@ -27,7 +27,7 @@ use Rattle.format.proofs.Openings.{OpensBitpacked, OpensLinear, OpensBlockwise,
 use Rattle.blockwise_linear.specs.Reader.{firstCursor, blocksFrom, listed, Fillable}
 use Rattle.sheets.specs.Faults.{AllWithin}
 use Rattle.sheets.proofs.SheetNumbers.{accepted}
-use Rattle.u64_based.specs.Opening.{tabled, tableFor, Finds}
+use Rattle.loading.specs.Opening.{tabled, tableFor, Finds}
 
 -- ---- the code byte
 

@@ -1,4 +1,4 @@
--- `u64_based::open_plain` meets its contract: the code byte, the head and the body decide in the rule's order.
+-- `loading::open_plain` meets its contract: the code byte, the head and the body decide in the rule's order.
 -- Assumes nothing.
 use mathlib.Core.Path.{_≡_}
 use mathlib.Core.List.{List}
@@ -13,9 +13,9 @@ use Rattle.format.specs.Stats.{readHead}
 use Rattle.format.specs.Opening.{openBody, opened}
 use Rattle.format.proofs.Outcomes.{told}
 use Rattle.stats.specs.Meaning.{headMeaning}
-use Rattle.u64_based.proofs.Opens.{opened-none, opened-unknown, opened-known}
-use Rattle.u64_based.proofs.open_plain.Statement.{statement}
-use Rattle.u64_based.proofs.open_plain.Tie as tie
+use Rattle.loading.proofs.Opens.{opened-none, opened-unknown, opened-known}
+use Rattle.loading.proofs.open_plain.Statement.{statement}
+use Rattle.loading.proofs.open_plain.Tie as tie
 
 -- the bytes, and opening once their code byte is known
 abbrev bytes : tie.Else2 → List ℕ

@@ -22,7 +22,7 @@ use Rattle.format.proofs.Tables.{blocks-read}
 use Rattle.blockwise_linear.specs.Passing.{passed, Passing}
 use Rattle.blockwise_linear.specs.Reader.{firstCursor, blocksFrom, Good}
 use Rattle.blockwise_linear.proofs.Stops.{stop, stop-block}
-use Rattle.u64_based.specs.Opening.{blocked}
+use Rattle.loading.specs.Opening.{blocked}
 
 -- the blocks of what opening found: they were checked, and there are as many as the table has
 pub record Footer (s : List ℕ) (o : Loaded) : Type 0 where

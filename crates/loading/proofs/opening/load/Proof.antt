@@ -1,10 +1,10 @@
--- `u64_based::opening::load` meets its contract: each arm is a case of `openBody`.
+-- `loading::opening::load` meets its contract: each arm is a case of `openBody`.
 -- Assumes nothing.
 use borrow.Author.Needs.{needs}
 use Rattle.format.specs.Opening.{openBody}
-use Rattle.u64_based.proofs.Opens.{body-blockwise}
-use Rattle.u64_based.proofs.opening.load.Statement.{statement}
-use Rattle.u64_based.proofs.opening.load.Tie as tie
+use Rattle.loading.proofs.Opens.{body-blockwise}
+use Rattle.loading.proofs.opening.load.Statement.{statement}
+use Rattle.loading.proofs.opening.load.Tie as tie
 
 load-requires : tie.Need-load-requires
 load-requires c κs = search needs
