@@ -51,8 +51,8 @@ use Rattle.chunks.specs.Stretch.{counted, StretchAs}
 use Rattle.chunks.proofs.Chunks.{in-block}
 use Rattle.chunks.proofs.Stretches.{stretch-by, stretch-for}
 use Rattle.sheets.proofs.SheetNumbers.{accepted}
-use Rattle.u64_based.specs.Opening.{blocked}
-use Rattle.u64_based.proofs.Passes.{opened-footer, pass-block, few-blocked, passing-at}
+use Rattle.loading.specs.Opening.{blocked}
+use Rattle.loading.proofs.Passes.{opened-footer, pass-block, few-blocked, passing-at}
 use Rattle.checking.specs.declared.rows.Walk.{Walk}
 use Rattle.checking.specs.Checked.{Answers, CheckedAs}
 use Rattle.checking.specs.Walks.{sameFront, behind, left, Walking, verdict}

@@ -55,7 +55,7 @@ pub fn verdict_on(kind: Kind, opened: Opened, bytes: &[u8], values: &[u64]) -> C
             list: values.len(),
         };
     }
-    let rows = u64_based::opening::table_rows(opened);
+    let rows = loading::opening::table_rows(opened);
     let blocks = (rows as usize + 511) / 512;
     let mut decoded = [0u64; 512];
     let mut pass = blockwise_linear::passing::begin(bytes, rows);

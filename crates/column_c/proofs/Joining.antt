@@ -1,6 +1,7 @@
 -- A column, or a kind, that is made of numbers, and what is done with it; of numbers that are none what is done leaves lent memory as it was.
 --     joined, answers            what is done with a column decides, if there is one
 --     lists                      the same, with a lent list
+--     listed                     what was written is told
 --     lookup-still, run-still    no rows are found or decoded in a column of no rows
 --     opens                      what was opened is described
 --     judges                     the verdict on values of a kind
@@ -31,11 +32,11 @@ use Rattle.plain.specs.declared.Made.{Made}
 use Rattle.plain.specs.declared.Made.the-variants.{Column as MadeColumn, Refused as NotMade}
 use Rattle.plain.specs.declared.kinds.Known.{Known}
 use Rattle.plain.specs.declared.kinds.Known.the-variants.{Kind as KnownKind, Refused as NotKnown}
-use Rattle.plain.specs.Checking.{verdictNumbers}
+use Rattle.telling.specs.Checking.{verdictNumbers}
 use Rattle.plain.specs.Explaining.{Tells}
 use Rattle.plain.specs.Kinds.{kindFrom, knownMeaning, kindOf, sheetOf}
 use Rattle.plain.specs.Numbers.{after, columnFrom, madeMeaning, noColumn, columnOf, Answers, Describes}
-use Rattle.column_c.specs.Calls.{Lists, Opens, Judges}
+use Rattle.column_c.specs.Calls.{Lists, Loads, Judges}
 
 -- ---- columns
 
@@ -77,9 +78,14 @@ run-still read first zero l = at-end (leb (first + zero) 0)
     at-end false = refl
 run-still read first (suc n) l = rw (lt-leb (first + suc n) 0 (omega arith))
 
+-- ---- writing
+
+pub listed : {o : Outcome (List ℕ)} {said : Outcome ℕ} {n : ℕ} {two before after : List ℕ} → StoresAs o said before after → Answers said n two → Lists o n two before after
+listed {o} {said} {n} {two} w t = record { answers = subst (λ (x : Outcome ℕ). Answers x n two) (w .answer) t; list = w .list }
+
 -- ---- opening
 
-pub opens : {o : Outcome Loaded} {a : Opened} {result : ℕ} {two column column′ : List ℕ} {table table′ : List Block} → OpenedAs o a table table′ → Describes (openedMeaning a) result two column column′ → Opens o result two column column′ table table′
+pub opens : {o : Outcome Loaded} {a : Opened} {result : ℕ} {two column column′ : List ℕ} {table table′ : List Block} → OpenedAs o a table table′ → Describes (openedMeaning a) result two column column′ → Loads o result two column column′ table table′
 opens {o} {a} {result} {two} {column} {column′} p d = record { describes = subst (λ x. Describes x result two column column′) (p .answer) d; table-is = p .table }
 
 -- ---- kinds

@@ -1,4 +1,3 @@
-pub mod Answering
 pub mod Joining
 pub mod Ranges
 pub mod Types

@@ -5,7 +5,6 @@ use mathlib.Core.Path.{_≡_}
 use mathlib.Core.List.{List, [], _∷_}
 use Rattle.format.specs.declared.Block.{Block}
 use Rattle.format.specs.declared.Column.{Column}
-use Rattle.format.specs.declared.ColumnStats.{ColumnStats}
 use Rattle.format.specs.declared.Kind.{Kind}
 use Rattle.format.specs.declared.Part.{Part}
 use Rattle.format.specs.declared.Range.{Range}
@@ -17,33 +16,18 @@ use Rattle.format.specs.Reading.{rowAt}
 use Rattle.format.specs.Replaying.{Report, replayed}
 use Rattle.format.specs.Runs.{decoded}
 use Rattle.format.specs.Sheets.{openedUnder}
-use Rattle.format.specs.Stats.{stated}
 use Rattle.format.specs.Typed.{storedAs}
-use Rattle.format.specs.Windows.{narrowed}
-use Rattle.format.specs.Writing.{written}
 use Rattle.explaining.specs.Bytes.{partOf, rowsOf}
-use Rattle.plain.specs.Checking.{verdictNumbers}
 use Rattle.plain.specs.Explaining.{partNumbers, rowsIn, Tells}
 use Rattle.plain.specs.Kinds.{kindFrom}
 use Rattle.plain.specs.Numbers.{columnFrom, Answers, Describes}
+use Rattle.telling.specs.Checking.{verdictNumbers}
 
 -- ---- what a call finds
-
--- the statistics of a list of values of the kind of a number
-abbrev pub statedFrom : (n : ℕ) (xs : List ℕ) → Outcome ColumnStats
-statedFrom n xs = kindFrom n >>= (λ (kind : Kind). stated (storedAs kind xs))
-
--- and its column
-abbrev pub writtenFrom : (n : ℕ) (xs cs : List ℕ) (room : ℕ) → Outcome (List ℕ)
-writtenFrom n xs cs room = kindFrom n >>= (λ (kind : Kind). written (storedAs kind xs) cs room)
 
 -- the two numbers of a range
 abbrev pub rangeNumbers : Range → List ℕ
 rangeNumbers r = r .low ∷ r .high ∷ []
-
--- narrowing the column of twelve numbers
-abbrev pub narrowedFrom : (ns : List ℕ) (first count : ℕ) → Outcome Column
-narrowedFrom ns first count = columnFrom ns >>= (λ (col : Column). narrowed col first count)
 
 -- reading a row of the column of twelve numbers
 abbrev pub rowFrom : (ns : List ℕ) (t : List Block) (s : List ℕ) (r : ℕ) → Outcome ℕ
@@ -86,7 +70,7 @@ pub record Lists (outcome : Outcome (List ℕ)) (result : ℕ) (refusal before a
   pub list : after ≡ stored outcome before
 
 -- an opening: the numbers of its column, and the block table
-pub record Opens (outcome : Outcome Loaded) (result : ℕ) (refusal column column′ : List ℕ) (table table′ : List Block) : Type 0 where
+pub record Loads (outcome : Outcome Loaded) (result : ℕ) (refusal column column′ : List ℕ) (table table′ : List Block) : Type 0 where
   pub describes : Describes (columnIn outcome) result refusal column column′
   pub table-is : table′ ≡ stored (tableIn outcome) table
 

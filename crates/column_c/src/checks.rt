@@ -2,10 +2,10 @@
 ghost use lib.ListN.{length};
 ghost use Rattle.column_c.specs.Calls.{Judges};
 use format::Block;
-use plain::checks::verdict_told;
 use plain::kinds::kind_from;
 use plain::kinds::kind_of;
 use plain::kinds::sheet_of;
+use telling::checks::verdict_told;
 
 // Opens a column under a sheet and checks it against a list of values of a kind. A column that does not open is a verdict, and no refusal of the call.
 #[no_mangle]

@@ -15,22 +15,19 @@ ghost use Rattle.format.specs.Sheets.{openedUnder};
 ghost use Rattle.format.specs.Stats.{stated};
 ghost use Rattle.format.specs.Writing.{written};
 ghost use Rattle.plain.specs.Numbers.{Answers, Narrows, States};
-ghost use Rattle.column_c.specs.Calls.{narrowedFrom, rowFrom, foundFrom, runFrom, Lists, Opens};
+ghost use Rattle.plain_calls.specs.Calls.{narrowedFrom};
+ghost use Rattle.column_c.specs.Calls.{rowFrom, foundFrom, runFrom, Lists, Loads};
 use format::Block;
-use format::Narrowed;
-use format::Stated;
-use format::Written;
-use plain::ACCEPTED;
-use plain::Made;
 use plain::column_from;
-use plain::column_numbers;
 use plain::column_of;
-use plain::found_told;
-use plain::open_told;
-use plain::row_told;
-use plain::run_told;
-use plain::told;
 use plain::window_row;
+use telling::column_told;
+use telling::found_told;
+use telling::length_told;
+use telling::open_told;
+use telling::row_told;
+use telling::run_told;
+use telling::stats_told;
 
 // The statistics of a list: minimum, maximum, gcd, rows.
 #[no_mangle]
@@ -41,15 +38,8 @@ pub extern "C" fn hulemartob_column_stats(
 )
     ensures { λ _. ⌜ States (stated (now (values .entry))) (now (refusal .exit)) (now (stats .entry)) (now (stats .exit)) ⌝ }
 {
-    match u64_based::column_stats(values) {
-        Stated::Stats(s) => {
-            *stats = [s.minimum, s.maximum, s.gcd, s.rows as u64];
-            *refusal = ACCEPTED;
-        }
-        Stated::Refused(q) => {
-            *refusal = told(q);
-        }
-    }
+    let answer = u64_based::column_stats(values);
+    stats_told(answer, stats, refusal);
 }
 
 // Writes a list as a column by one of the listed codecs, and returns the column's length, 0 on refusal.
@@ -62,16 +52,8 @@ pub extern "C" fn hulemartob_serialize(
 ) -> usize
     ensures { λ r. ⌜ Lists (written (now (values .entry)) (now (codecs .entry)) (length (now (out .entry)))) r (now (refusal .exit)) (now (out .entry)) (now (out .exit)) ⌝ }
 {
-    match u64_based::serialize(values, codecs, out) {
-        Written::Length(n) => {
-            *refusal = ACCEPTED;
-            n
-        }
-        Written::Refused(q) => {
-            *refusal = told(q);
-            0
-        }
-    }
+    let answer = u64_based::serialize(values, codecs, out);
+    length_told(answer, refusal)
 }
 
 // Opens a column under sheet 1: its twelve numbers, and its blocks in the table. Returns the offset of the first longer spelling, 2^64 - 1 where
@@ -83,7 +65,7 @@ pub extern "C" fn hulemartob_open(
     column: &mut [u64; 12],
     refusal: &mut [u64; 2],
 ) -> u64
-    ensures { λ r. ⌜ Opens (opened (now (bytes .entry)) (length (now (table .entry)))) r (now (refusal .exit)) (now (column .entry)) (now (column .exit)) (now (table .entry)) (now (table .exit)) ⌝ }
+    ensures { λ r. ⌜ Loads (opened (now (bytes .entry)) (length (now (table .entry)))) r (now (refusal .exit)) (now (column .entry)) (now (column .exit)) (now (table .entry)) (now (table .exit)) ⌝ }
 {
     let answer = records::open(bytes, table);
     open_told(answer, column, refusal)
@@ -98,7 +80,7 @@ pub extern "C" fn hulemartob_open_under(
     column: &mut [u64; 12],
     refusal: &mut [u64; 2],
 ) -> u64
-    ensures { λ r. ⌜ Opens (openedUnder sheet (now (bytes .entry)) (length (now (table .entry)))) r (now (refusal .exit)) (now (column .entry)) (now (column .exit)) (now (table .entry)) (now (table .exit)) ⌝ }
+    ensures { λ r. ⌜ Loads (openedUnder sheet (now (bytes .entry)) (length (now (table .entry)))) r (now (refusal .exit)) (now (column .entry)) (now (column .exit)) (now (table .entry)) (now (table .exit)) ⌝ }
 {
     let answer = records::open_under(sheet, bytes, table);
     open_told(answer, column, refusal)
@@ -114,22 +96,8 @@ pub extern "C" fn hulemartob_narrow(
 )
     ensures { λ _. ⌜ Narrows (narrowedFrom (now (column .entry)) first count) (now (refusal .exit)) (now (column .entry)) (now (column .exit)) ⌝ }
 {
-    let opened = match column_from(column) {
-        Made::Column(opened) => opened,
-        Made::Refused(q) => {
-            *refusal = told(q);
-            return;
-        }
-    };
-    match u64_based::narrow(opened, first, count) {
-        Narrowed::Column(narrowed) => {
-            *column = column_numbers(narrowed);
-            *refusal = ACCEPTED;
-        }
-        Narrowed::Refused(q, _) => {
-            *refusal = told(q);
-        }
-    }
+    let made = plain_calls::narrowed(column, first, count);
+    column_told(made, column, refusal);
 }
 
 // The value of a row of the window, 0 on refusal.

@@ -1,10 +1,10 @@
 // Recorded lookups, replayed.
-ghost use Rattle.plain.specs.Replaying.{Reports};
+ghost use Rattle.telling.specs.Replaying.{Reports};
 ghost use Rattle.column_c.specs.Calls.{replayedFrom};
 use format::Block;
 use plain::column_from;
 use plain::column_of;
-use plain::replays::report_told;
+use telling::replays::report_told;
 
 // Replays a recording over a column.
 #[no_mangle]

@@ -5,13 +5,10 @@ ghost use mathlib.Core.Path.{_≡_};
 ghost use lib.ListN.{length};
 ghost use Rattle.format.specs.Typed.{signedOf, flagOf, floatOf, signedRange, flagRange, floatRange};
 ghost use Rattle.plain.specs.Numbers.{States};
-ghost use Rattle.column_c.specs.Calls.{statedFrom, writtenFrom, rangeNumbers, Lists};
-use format::Stated;
-use format::Written;
-use plain::ACCEPTED;
-use plain::kinds::Known;
-use plain::kinds::kind_from;
-use plain::told;
+ghost use Rattle.plain_calls.specs.Calls.{statedFrom, writtenFrom};
+ghost use Rattle.column_c.specs.Calls.{rangeNumbers, Lists};
+use telling::length_told;
+use telling::stats_told;
 
 // ---- writing
 
@@ -25,22 +22,8 @@ pub extern "C" fn hulemartob_column_stats_as(
 )
     ensures { λ _. ⌜ States (statedFrom kind (now (values .entry))) (now (refusal .exit)) (now (stats .entry)) (now (stats .exit)) ⌝ }
 {
-    let known = match kind_from(kind) {
-        Known::Kind(known) => known,
-        Known::Refused(q) => {
-            *refusal = told(q);
-            return;
-        }
-    };
-    match u64_based::column_stats_as(known, values) {
-        Stated::Stats(s) => {
-            *stats = [s.minimum, s.maximum, s.gcd, s.rows as u64];
-            *refusal = ACCEPTED;
-        }
-        Stated::Refused(q) => {
-            *refusal = told(q);
-        }
-    }
+    let answer = plain_calls::stated(kind, values);
+    stats_told(answer, stats, refusal);
 }
 
 // Writes a list of values as a column by one of the listed codecs, and returns the column's length, 0 on refusal.
@@ -54,23 +37,8 @@ pub extern "C" fn hulemartob_serialize_as(
 ) -> usize
     ensures { λ r. ⌜ Lists (writtenFrom kind (now (values .entry)) (now (codecs .entry)) (length (now (out .entry)))) r (now (refusal .exit)) (now (out .entry)) (now (out .exit)) ⌝ }
 {
-    let known = match kind_from(kind) {
-        Known::Kind(known) => known,
-        Known::Refused(q) => {
-            *refusal = told(q);
-            return 0;
-        }
-    };
-    match u64_based::serialize_as(known, values, codecs, out) {
-        Written::Length(n) => {
-            *refusal = ACCEPTED;
-            n
-        }
-        Written::Refused(q) => {
-            *refusal = told(q);
-            0
-        }
-    }
+    let answer = plain_calls::written(kind, values, codecs, out);
+    length_told(answer, refusal)
 }
 
 // ---- reading

@@ -48,7 +48,7 @@ pub(crate) fn check_front(sheet: u32, bytes: &[u8], values: &[u64], n: usize) ->
     if BYTES_MAX < bytes.len() {
         return Checked::Unopened(Refusal::OverLimit);
     }
-    let opened = u64_based::open_plain_under(sheet, bytes, BLOCKS_MAX);
+    let opened = loading::open_plain_under(sheet, bytes, BLOCKS_MAX);
     let checked = checking::verdict_on(Kind::U64, opened, bytes, &values[..n]);
     within_rows(checked)
 }

@@ -1,5 +1,4 @@
 pub mod Columns
 pub mod Answering
 pub mod Naming
-pub mod Reporting
 pub mod Telling

@@ -1,27 +1,19 @@
-// Answers and columns as plain numbers, as the calls for Rust and C hand them over and take them. A refusal is two numbers, both 0 where nothing
+// Columns and refusals as plain numbers, as the calls for Rust and C hand them over and take them. A refusal is two numbers, both 0 where nothing
 // is refused; an opened column is twelve; a longer spelling is its offset, 2^64 - 1 where there is none.
-//
-// A function named `.._told` puts the numbers of an answer into lent arrays: those of the refusal always, the others where nothing is refused.
-pub mod checks;
 pub mod kinds;
 pub mod parts;
-pub mod replays;
 
 ghost use mathlib.Core.Path.{_≡_};
 ghost use mathlib.Core.List.{[], _∷_};
 ghost use Prim.Native.Nat.{_^_, _<_};
 ghost use lib.ListN.{getD};
 ghost use Rattle.format.specs.Listing.{codeOf};
-ghost use Rattle.format.specs.Refusals.{paper, openedMeaning, rowMeaning, foundMeaning, runMeaning};
-ghost use Rattle.plain.specs.Numbers.{after, madeMeaning, columnOf, offsetOf, ownNumbers, columnNumbers, columnWith, countsFit, columnFrom, Answers, Describes};
+ghost use Rattle.format.specs.Refusals.{paper};
+ghost use Rattle.plain.specs.Numbers.{madeMeaning, columnOf, offsetOf, ownNumbers, columnNumbers, columnWith, countsFit, columnFrom};
 use format::Codec;
 use format::Column;
-use format::Found;
 use format::Line;
-use format::Opened;
 use format::Refusal;
-use format::RowRead;
-use format::RunRead;
 use format::Spelling;
 use format::Window;
 use format::WindowRow;
@@ -37,7 +29,7 @@ pub fn told(refusal: Refusal) -> [u64; 2]
 }
 
 // The offset of the first longer spelling.
-fn longer(spelling: Spelling) -> u64
+pub fn longer(spelling: Spelling) -> u64
     ensures { λ r. ⌜ r ≡ offsetOf spelling ⌝ }
 {
     match spelling {
@@ -170,81 +162,4 @@ pub fn window_row(row: u32) -> WindowRow
     ensures { λ r. ⌜ r .0 ≡ row ⌝ }
 {
     WindowRow(row)
-}
-
-// What was opened: its numbers, and the offset of its longer spelling.
-pub fn open_told(answer: Opened, column: &mut [u64; 12], refusal: &mut [u64; 2]) -> u64
-    ensures { λ r. ⌜ Describes (openedMeaning answer) r (now (refusal .exit)) (now (column .entry)) (now (column .exit)) ⌝ }
-{
-    match answer {
-        Opened::Column(opened, spelling) => {
-            *column = column_numbers(opened);
-            *refusal = ACCEPTED;
-            longer(spelling)
-        }
-        Opened::Refused(q) => {
-            *refusal = told(q);
-            u64::MAX
-        }
-    }
-}
-
-// The value of a row of a column that was made, 0 on refusal.
-pub fn row_told(made: Made, answer: RowRead, refusal: &mut [u64; 2]) -> u64
-    ensures { λ r. ⌜ Answers (after (madeMeaning made) (rowMeaning answer)) r (now (refusal .exit)) ⌝ }
-{
-    if let Made::Refused(q) = made {
-        *refusal = told(q);
-        return 0;
-    }
-    match answer {
-        RowRead::Value(v) => {
-            *refusal = ACCEPTED;
-            v
-        }
-        RowRead::Refused(q) => {
-            *refusal = told(q);
-            0
-        }
-    }
-}
-
-// How many of its rows were found, 0 on refusal.
-pub fn found_told(made: Made, answer: Found, refusal: &mut [u64; 2]) -> usize
-    ensures { λ r. ⌜ Answers (after (madeMeaning made) (foundMeaning answer)) r (now (refusal .exit)) ⌝ }
-{
-    if let Made::Refused(q) = made {
-        *refusal = told(q);
-        return 0;
-    }
-    match answer {
-        Found::Rows(n) => {
-            *refusal = ACCEPTED;
-            n
-        }
-        Found::Refused(q) => {
-            *refusal = told(q);
-            0
-        }
-    }
-}
-
-// How many of its values were decoded, 0 on refusal.
-pub fn run_told(made: Made, answer: RunRead, refusal: &mut [u64; 2]) -> usize
-    ensures { λ r. ⌜ Answers (after (madeMeaning made) (runMeaning answer)) r (now (refusal .exit)) ⌝ }
-{
-    if let Made::Refused(q) = made {
-        *refusal = told(q);
-        return 0;
-    }
-    match answer {
-        RunRead::Values(n) => {
-            *refusal = ACCEPTED;
-            n
-        }
-        RunRead::Refused(q) => {
-            *refusal = told(q);
-            0
-        }
-    }
 }

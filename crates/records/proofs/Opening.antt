@@ -19,8 +19,8 @@ use Rattle.format.specs.Reading.{noBlock, blockAt}
 use Rattle.format.specs.Sheets.{underSheet, openedUnder}
 use Rattle.format.specs.Calls.{OpenedAs}
 use Rattle.blockwise_linear.specs.Reader.{firstCursor, blocksFrom, listed, Fillable}
-use Rattle.u64_based.specs.Opening.{tabled}
-use Rattle.u64_based.proofs.Opens.{Tabled, opened-tabled, under-finds, under-table}
+use Rattle.loading.specs.Opening.{tabled}
+use Rattle.loading.proofs.Opens.{Tabled, opened-tabled, under-finds, under-table}
 
 module _ (sheet : ℕ) (s : List ℕ) (room : ℕ) (p : Opened) (answer : openedMeaning p ≡ columnIn (openedUnder sheet s room)) (rows : ℕ) (has : rows ≡ tabled (openedMeaning p)) where
   tables : Tabled s room (opened s room) (openedMeaning p)

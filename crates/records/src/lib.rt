@@ -171,8 +171,8 @@ pub fn open_under(sheet: u32, bytes: &[u8], table: &mut [Block]) -> Opened
     ensures { λ r. ⌜ OpenedAs (openedUnder sheet (now (bytes .entry)) (length (now (table .entry)))) r (now (table .entry)) (now (table .exit)) ⌝ }
 {
     let room = table.len();
-    let answer = u64_based::open_plain_under(sheet, bytes, room);
-    let rows = u64_based::opening::table_rows(answer);
+    let answer = loading::open_plain_under(sheet, bytes, room);
+    let rows = loading::opening::table_rows(answer);
     fill(bytes, rows, table);
     answer
 }

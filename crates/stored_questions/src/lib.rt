@@ -187,7 +187,7 @@ fn window_stored(column: Column, file: &[u8], at: usize) -> bool {
 fn narrow_alike(column: Column, file: &[u8], at: usize) -> bool {
     let first = half_at(file, after(at, 2));
     let count = half_at(file, after(at, 3));
-    match u64_based::narrow(column, first, count) {
+    match loading::narrow(column, first, count) {
         Narrowed::Column(narrowed) => {
             success().is_stored(file, after(at, 5)) && window_stored(narrowed, file, after(at, 7))
         }

@@ -30,7 +30,7 @@ use Rattle.blockwise_linear.proofs.Stops.{passing-starts}
 use Rattle.reading.specs.Chunks.{Fitting, chunkSize}
 use Rattle.reading.proofs.Fitting.{fitting}
 use Rattle.chunks.proofs.Stretches.{run-stretch, stretch-value}
-use Rattle.u64_based.proofs.Passes.{opened-footer, pass-block, few-blocked, passing-at}
+use Rattle.loading.proofs.Passes.{opened-footer, pass-block, few-blocked, passing-at}
 use Rattle.text.specs.Own.{tableOf, ownRow, blockRows, passAt, Opens, Owned, AtRow}
 use Rattle.text.proofs.Limits.{here-opened}
 use Rattle.text.proofs.Rows.{here-first, here-rows, here-lacking}

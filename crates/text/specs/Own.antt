@@ -12,7 +12,7 @@ use Rattle.format.specs.Outcome.{Outcome, Outcome.value, Outcome.refusal}
 use Rattle.format.specs.Reading.{blockAt, rowAt}
 use Rattle.blockwise_linear.specs.declared.passing.Pass.{Pass}
 use Rattle.blockwise_linear.specs.Passing.{passed, Passing}
-use Rattle.u64_based.specs.Opening.{blocked}
+use Rattle.loading.specs.Opening.{blocked}
 use Rattle.text.specs.declared.own.Own.{Own}
 
 -- ---- its rows

@@ -20,7 +20,7 @@ pub fn open_plain(bytes: &[u8]) -> Opened
     if BYTES_MAX < bytes.len() {
         return Opened::Refused(Refusal::OverLimit);
     }
-    let opened = u64_based::open_plain(bytes, BLOCKS_MAX);
+    let opened = loading::open_plain(bytes, BLOCKS_MAX);
     match opened {
         Opened::Column(column, _) => {
             if ROWS_MAX < column.rows {

@@ -1,24 +1,18 @@
 -- The contracts of the entry points determine what they answer and what every lent entry holds afterwards: two results that they allow coincide.
---     stats-determined, serialize-determined, stats-as-determined, serialize-as-determined, open-plain-determined, open-plain-under-determined, narrow-determined
+--     stats-determined, serialize-determined, stats-as-determined, serialize-as-determined
 -- Assumes nothing.
 use Prim.Native.Nat.{ℕ}
 use mathlib.Core.Path.{_≡_, sym, _∙_}
 use mathlib.Core.List.{List}
 use lib.ListN.{length}
-use Rattle.format.specs.declared.Column.{Column}
 use Rattle.format.specs.declared.Kind.{Kind}
-use Rattle.format.specs.declared.Narrowed.{Narrowed}
-use Rattle.format.specs.declared.Opened.{Opened}
 use Rattle.format.specs.declared.Stated.{Stated}
 use Rattle.format.specs.declared.Written.{Written}
-use Rattle.format.specs.Opening.{opened, columnIn}
-use Rattle.format.specs.Refusals.{statedMeaning, openedMeaning, narrowedMeaning}
-use Rattle.format.specs.Sheets.{openedUnder}
+use Rattle.format.specs.Refusals.{statedMeaning}
 use Rattle.format.specs.Stats.{stated}
 use Rattle.format.specs.Typed.{storedAs}
-use Rattle.format.specs.Windows.{narrowing}
 use Rattle.format.specs.Writing.{written}
-use Rattle.format.proofs.Answers.{stated-injective, written-injective, opened-injective, narrowed-injective}
+use Rattle.format.proofs.Answers.{stated-injective, written-injective}
 use Rattle.format.specs.Calls.{SerializedAs}
 
 -- two answers of `column_stats`
@@ -38,15 +32,3 @@ pub serialize-as-determined : (kind : Kind) (values codecs out : List ℕ) (a b 
     → SerializedAs (written (storedAs kind values) codecs (length out)) a out after → SerializedAs (written (storedAs kind values) codecs (length out)) b out after′
     → (a ≡ b) × (after ≡ after′)
 serialize-as-determined kind values = serialize-determined (storedAs kind values)
-
--- two answers of `open_plain`
-pub open-plain-determined : (s : List ℕ) (room : ℕ) (a b : Opened) → openedMeaning a ≡ columnIn (opened s room) → openedMeaning b ≡ columnIn (opened s room) → a ≡ b
-open-plain-determined s room a b p q = opened-injective a b (p ∙ sym q)
-
--- the same under a sheet
-pub open-plain-under-determined : (sheet : ℕ) (s : List ℕ) (room : ℕ) (a b : Opened) → openedMeaning a ≡ columnIn (openedUnder sheet s room) → openedMeaning b ≡ columnIn (openedUnder sheet s room) → a ≡ b
-open-plain-under-determined sheet s room a b p q = opened-injective a b (p ∙ sym q)
-
--- two answers of `narrow`
-pub narrow-determined : (column : Column) (first count : ℕ) (a b : Narrowed) → narrowedMeaning a ≡ narrowing column first count → narrowedMeaning b ≡ narrowing column first count → a ≡ b
-narrow-determined column first count a b p q = narrowed-injective a b (p ∙ sym q)

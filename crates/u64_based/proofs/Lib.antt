@@ -1,8 +1,4 @@
--- Laws of the entry points; the head of each file lists what it offers.
+-- What the contracts of writing come to; the head of each file lists what it offers.
 
--- opening
-pub mod Opens
-pub mod Passes
--- what the contracts come to
 pub mod Determined
 pub mod Cases

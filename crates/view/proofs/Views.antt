@@ -32,7 +32,7 @@ use Rattle.format.proofs.Outcomes.{not-value, value-same, by-step, by-demand}
 use Rattle.format.proofs.Openings.{bitpackedOf, linearOf, blockwiseOf}
 use Rattle.sheets.specs.Faults.{AllWithin}
 use Rattle.sheets.proofs.SheetNumbers.{accepted}
-use Rattle.u64_based.proofs.Opens.{opened-within}
+use Rattle.loading.proofs.Opens.{opened-within}
 use Rattle.view.specs.Held.{unlessBlockwise, forView}
 
 -- ---- refusals that are not 11

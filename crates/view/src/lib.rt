@@ -62,7 +62,7 @@ fn column_of(answer: Opened) -> Column
 pub fn open_plain(sheet: u32, bytes: &[u8]) -> Opened
     ensures { λ r. ⌜ openedMeaning r ≡ columnIn (viewedUnder sheet (now (bytes .entry))) ⌝ }
 {
-    let answer = for_view(u64_based::open_plain(bytes, 0));
+    let answer = for_view(loading::open_plain(bytes, 0));
     sheets::under(sheet, answer, bytes)
 }
 

@@ -37,10 +37,10 @@ use Rattle.records.proofs.lookup as lk
 use Rattle.records.proofs.lookup.Symbol as lk-def
 use Rattle.records.proofs.lookup.Symbol.{name as #records·lookup}
 use Rattle.records.proofs.lookup.Met as lk-thm
-use Rattle.plain.proofs.found_told as ft
-use Rattle.plain.proofs.found_told.Symbol as ft-def
-use Rattle.plain.proofs.found_told.Symbol.{name as #plain·found-told}
-use Rattle.plain.proofs.found_told.Met as ft-thm
+use Rattle.telling.proofs.found_told as ft
+use Rattle.telling.proofs.found_told.Symbol as ft-def
+use Rattle.telling.proofs.found_told.Symbol.{name as #telling·found-told}
+use Rattle.telling.proofs.found_told.Met as ft-thm
 use Rattle.column_c.proofs.hulemartob_lookup.Key.{name as #column-c·hulemartob-lookup}
 use Rattle.column_c.proofs.hulemartob_lookup as f
 use Rattle.column_c.proofs.hulemartob_lookup.Statement as stated
@@ -125,7 +125,7 @@ module _ {M : Type 1} (𝓤 : URA M) (H : Heap 𝓤) (A : Atoms 𝓤) (W : Given
   abbrev Says-ft : Made → Found → ℕ → List ℕ → Type 0
   Says-ft made answer v refusal′ = Answers (after (madeMeaning made) (foundMeaning answer)) v refusal′
 
-  module _ (C : Calls 𝓤 H) (Λ : Loops 𝓤 H) (fm : FmC 𝓤 H (W .laws) C) (known-cf : Triple 𝓤 (C #plain·column-from) (From 𝓤 H A mem run)) (known-co : Triple 𝓤 (C #plain·column-of) (Of 𝓤 H A mem run)) (known-lk : Triple 𝓤 (C #records·lookup) (Looked 𝓤 H A mem run)) (known-ft : Triple 𝓤 (C #plain·found-told) (Told 𝓤 H A mem run)) where
+  module _ (C : Calls 𝓤 H) (Λ : Loops 𝓤 H) (fm : FmC 𝓤 H (W .laws) C) (known-cf : Triple 𝓤 (C #plain·column-from) (From 𝓤 H A mem run)) (known-co : Triple 𝓤 (C #plain·column-of) (Of 𝓤 H A mem run)) (known-lk : Triple 𝓤 (C #records·lookup) (Looked 𝓤 H A mem run)) (known-ft : Triple 𝓤 (C #telling·found-told) (Told 𝓤 H A mem run)) where
     walk : length (table .now) < 2 ^ 64 → length (bytes .now) < 2 ^ 64 → low < 2 ^ 64 → high < 2 ^ 64 → first < 2 ^ 32 → end < 2 ^ 32 → length (found .now) < 2 ^ 64
         → ent 𝓤 (onEntry 𝓤 H A f.signature κs (q₀, (q₁, (q₂, (q₃, (q₄, tt))))) x at) (WpFn 𝓤 H C Λ code.function (column-at ∷ table-at ∷ bytes-at ∷ vint w64 low ∷ vint w64 high ∷ vint w32 first ∷ vint w32 end ∷ found-at ∷ refusal-at ∷ []) Post)
     walk table-fits bytes-fits low-fits high-fits first-fits end-fits found-fits =
@@ -165,7 +165,7 @@ module _ {M : Type 1} (𝓤 : URA M) (H : Heap 𝓤) (A : Atoms 𝓤) (W : Given
         by ! (exits v (zlk .1 .1 .1 .1 .1 .1 .1 .0) (zft .1 .1 .0) (lists (λ (col : Column). lookedUp (rowAt col (table .now) (bytes .now)) (col .window .rows) (within low high) first end (length (found .now))) (column .now) made made-is (lookup-still _ (within low high) first end (length (found .now))) c-is answer-is v-is) long-found (fits (number w64) v uft v-fits)))))))))))))))))))))))))))))))
 
 module _ {M : Type 1} (𝓤 : URA M) (H : Heap 𝓤) (A : Atoms 𝓤) (W : Given 𝓤 H A) (mem : Memory → SProp 𝓤) (run : Routine → Fun 𝓤) where
-  walks : (𝓣 : Tables 𝓤 H) → Triple 𝓤 (𝓣 .C #plain·column-from) (From 𝓤 H A mem run) → Triple 𝓤 (𝓣 .C #plain·column-of) (Of 𝓤 H A mem run) → Triple 𝓤 (𝓣 .C #records·lookup) (Looked 𝓤 H A mem run) → Triple 𝓤 (𝓣 .C #plain·found-told) (Told 𝓤 H A mem run)
+  walks : (𝓣 : Tables 𝓤 H) → Triple 𝓤 (𝓣 .C #plain·column-from) (From 𝓤 H A mem run) → Triple 𝓤 (𝓣 .C #plain·column-of) (Of 𝓤 H A mem run) → Triple 𝓤 (𝓣 .C #records·lookup) (Looked 𝓤 H A mem run) → Triple 𝓤 (𝓣 .C #telling·found-told) (Told 𝓤 H A mem run)
       → Walks 𝓤 H A f.ended stayed (WpFn 𝓤 H (𝓣 .C) (𝓣 .Λ) code.function) (f.clauses 𝓤 H A mem run)
   walks 𝓣 k₁ k₂ k₃ k₄ =
       walked 𝓤 H A f.ended stayed (f.clauses 𝓤 H A mem run) (WpFn 𝓤 H (𝓣 .C) (𝓣 .Λ) code.function) (λ κs. (ptr-vals, (slice-vals, (slice-vals, (uint-vals w64, (uint-vals w64, (uint-vals w32, (uint-vals w32, (slice-vals, (ptr-vals, tt))))))))))
@@ -184,4 +184,4 @@ hulemartob-lookup-spec 𝓤 H 𝓜 𝓖 𝓡 =
     (cited 𝓤 H (From 𝓤 H (𝓖 .A) (𝓜 .mem) (𝓡 .run)) 𝓜 𝓡 code.env #plain·column-from cf-def.routine code.calls-plain·column-from (cf-thm.met 𝓤 H 𝓜 𝓖 𝓡))
     (cited 𝓤 H (Of 𝓤 H (𝓖 .A) (𝓜 .mem) (𝓡 .run)) 𝓜 𝓡 code.env #plain·column-of co-def.routine code.calls-plain·column-of (co-thm.met 𝓤 H 𝓜 𝓖 𝓡))
     (cited 𝓤 H (Looked 𝓤 H (𝓖 .A) (𝓜 .mem) (𝓡 .run)) 𝓜 𝓡 code.env #records·lookup lk-def.routine code.calls-records·lookup (lk-thm.met 𝓤 H 𝓜 𝓖 𝓡))
-    (cited 𝓤 H (Told 𝓤 H (𝓖 .A) (𝓜 .mem) (𝓡 .run)) 𝓜 𝓡 code.env #plain·found-told ft-def.routine code.calls-plain·found-told (ft-thm.met 𝓤 H 𝓜 𝓖 𝓡))))
+    (cited 𝓤 H (Told 𝓤 H (𝓖 .A) (𝓜 .mem) (𝓡 .run)) 𝓜 𝓡 code.env #telling·found-told ft-def.routine code.calls-telling·found-told (ft-thm.met 𝓤 H 𝓜 𝓖 𝓡))))

@@ -17,16 +17,16 @@ use Rattle.format.specs.Refusals.{openedMeaning}
 use Rattle.records.proofs.Types as Ty
 use Rattle.plain.specs.Numbers.{Describes}
 use Rattle.format.proofs.Opened.Laws as O′
-use Rattle.column_c.specs.Calls.{Opens}
+use Rattle.column_c.specs.Calls.{Loads}
 use Rattle.column_c.proofs.Joining.{opens}
 use Rattle.records.proofs.open as op
 use Rattle.records.proofs.open.Symbol as op-def
 use Rattle.records.proofs.open.Symbol.{name as #records·open}
 use Rattle.records.proofs.open.Met as op-thm
-use Rattle.plain.proofs.open_told as ot
-use Rattle.plain.proofs.open_told.Symbol as ot-def
-use Rattle.plain.proofs.open_told.Symbol.{name as #plain·open-told}
-use Rattle.plain.proofs.open_told.Met as ot-thm
+use Rattle.telling.proofs.open_told as ot
+use Rattle.telling.proofs.open_told.Symbol as ot-def
+use Rattle.telling.proofs.open_told.Symbol.{name as #telling·open-told}
+use Rattle.telling.proofs.open_told.Met as ot-thm
 use Rattle.column_c.proofs.hulemartob_open.Key.{name as #column-c·hulemartob-open}
 use Rattle.column_c.proofs.hulemartob_open as f
 use Rattle.column_c.proofs.hulemartob_open.Statement as stated
@@ -80,7 +80,7 @@ module _ {M : Type 1} (𝓤 : URA M) (H : Heap 𝓤) (A : Atoms 𝓤) (W : Given
   abbrev Post : Val → SProp 𝓤
   Post = walkOf 𝓤 H A f.ended stayed (f.clauses 𝓤 H A mem run) .post Bind
 
-  exits : (v : ℕ) (table′ : List Block) (column′ : List ℕ) (refusal′ : List ℕ) → Opens (opened (bytes .now) (length (table .now))) v refusal′ (column .now) column′ (table .now) table′ → length table′ ≡ length (table .now) → Fits (number w64) v
+  exits : (v : ℕ) (table′ : List Block) (column′ : List ℕ) (refusal′ : List ℕ) → Loads (opened (bytes .now) (length (table .now))) v refusal′ (column .now) column′ (table .now) table′ → length table′ ≡ length (table .now) → Fits (number w64) v
       → ent 𝓤 (⋆ 𝓤 H A ((‵ (flft κ₀ q₀) ⊛ (‵ (flft κ₁ q₁) ⊛ ‵ ftrue)) ∷ (‵ (flft κ₂ q₂) ⊛ (‵ (flft κ₃ q₃) ⊛ ‵ ftrue)) ∷ ‵ (finally (Ty.block .row) (table .name) table′) ∷ ‵ (fres (column .name) (Twelve .row κs .coded .code column′)) ∷ ‵ (fres (refusal .name) (Two .row κs .coded .code refusal′)) ∷ [])) (Post (vint w64 v))
   exits v table′ column′ refusal′ e long-table is =
       qed W ((‵ (flft κ₀ q₀) ⊛ (‵ (flft κ₁ q₁) ⊛ ‵ ftrue)) ∷ (‵ (flft κ₂ q₂) ⊛ (‵ (flft κ₃ q₃) ⊛ ‵ ftrue)) ∷ ‵ (finally (Ty.block .row) (table .name) table′) ∷ ‵ (fres (column .name) (Twelve .row κs .coded .code column′)) ∷ ‵ (fres (refusal .name) (Two .row κs .coded .code refusal′)) ∷ []) ∵
@@ -102,7 +102,7 @@ module _ {M : Type 1} (𝓤 : URA M) (H : Heap 𝓤) (A : Atoms 𝓤) (W : Given
   abbrev Says-ot : Opened → ℕ → List ℕ → List ℕ → Type 0
   Says-ot answer v column′ refusal′ = Describes (openedMeaning answer) v refusal′ (column .now) column′
 
-  module _ (C : Calls 𝓤 H) (Λ : Loops 𝓤 H) (fm : FmC 𝓤 H (W .laws) C) (known-op : Triple 𝓤 (C #records·open) (Opening 𝓤 H A mem run)) (known-ot : Triple 𝓤 (C #plain·open-told) (Told 𝓤 H A mem run)) where
+  module _ (C : Calls 𝓤 H) (Λ : Loops 𝓤 H) (fm : FmC 𝓤 H (W .laws) C) (known-op : Triple 𝓤 (C #records·open) (Opening 𝓤 H A mem run)) (known-ot : Triple 𝓤 (C #telling·open-told) (Told 𝓤 H A mem run)) where
     walk : length (bytes .now) < 2 ^ 64 → length (table .now) < 2 ^ 64
         → ent 𝓤 (onEntry 𝓤 H A f.signature κs (q₀, (q₁, (q₂, (q₃, tt)))) x at) (WpFn 𝓤 H C Λ code.function (bytes-at ∷ table-at ∷ column-at ∷ refusal-at ∷ []) Post)
     walk bytes-fits table-fits =
@@ -136,7 +136,7 @@ module _ {M : Type 1} (𝓤 : URA M) (H : Heap 𝓤) (A : Atoms 𝓤) (W : Given
         by ! (exits v (zop .1 .0) (zot .1 .0) (zot .1 .1 .0) (opens answer-is v-is) long-table (fits (number w64) v uot v-fits)))))))))))))))))))))))
 
 module _ {M : Type 1} (𝓤 : URA M) (H : Heap 𝓤) (A : Atoms 𝓤) (W : Given 𝓤 H A) (mem : Memory → SProp 𝓤) (run : Routine → Fun 𝓤) where
-  walks : (𝓣 : Tables 𝓤 H) → Triple 𝓤 (𝓣 .C #records·open) (Opening 𝓤 H A mem run) → Triple 𝓤 (𝓣 .C #plain·open-told) (Told 𝓤 H A mem run)
+  walks : (𝓣 : Tables 𝓤 H) → Triple 𝓤 (𝓣 .C #records·open) (Opening 𝓤 H A mem run) → Triple 𝓤 (𝓣 .C #telling·open-told) (Told 𝓤 H A mem run)
       → Walks 𝓤 H A f.ended stayed (WpFn 𝓤 H (𝓣 .C) (𝓣 .Λ) code.function) (f.clauses 𝓤 H A mem run)
   walks 𝓣 k₁ k₂ =
       walked 𝓤 H A f.ended stayed (f.clauses 𝓤 H A mem run) (WpFn 𝓤 H (𝓣 .C) (𝓣 .Λ) code.function) (λ κs. (slice-vals, (slice-vals, (ptr-vals, (ptr-vals, tt)))))
@@ -153,4 +153,4 @@ hulemartob-open-spec 𝓤 H 𝓜 𝓖 𝓡 =
     (goes-dropped 𝓤 H (𝓖 .A) W 4 (shrSliceOf (0 ∷ []) tt (plain (λ _. u8))) yes (λ κs x f. refl), (goes-gave-slice 𝓤 H (𝓖 .A) W 4 1 tt (plain (λ _. Ty.block .row)), (goes-gave-ref 𝓤 H (𝓖 .A) W 4 2 tt Twelve, (goes-gave-ref 𝓤 H (𝓖 .A) W 4 3 tt Two, tt))))
     (f.clauses 𝓤 H (𝓖 .A) (𝓜 .mem) (𝓡 .run)) (WpFn 𝓤 H (𝓣 .C) (𝓣 .Λ) code.function) (WpFn-mono 𝓤 H (W .laws) 𝓣 code.function) (walks 𝓤 H (𝓖 .A) W (𝓜 .mem) (𝓡 .run) 𝓣
     (cited 𝓤 H (Opening 𝓤 H (𝓖 .A) (𝓜 .mem) (𝓡 .run)) 𝓜 𝓡 code.env #records·open op-def.routine code.calls-records·open (op-thm.met 𝓤 H 𝓜 𝓖 𝓡))
-    (cited 𝓤 H (Told 𝓤 H (𝓖 .A) (𝓜 .mem) (𝓡 .run)) 𝓜 𝓡 code.env #plain·open-told ot-def.routine code.calls-plain·open-told (ot-thm.met 𝓤 H 𝓜 𝓖 𝓡))))
+    (cited 𝓤 H (Told 𝓤 H (𝓖 .A) (𝓜 .mem) (𝓡 .run)) 𝓜 𝓡 code.env #telling·open-told ot-def.routine code.calls-telling·open-told (ot-thm.met 𝓤 H 𝓜 𝓖 𝓡))))

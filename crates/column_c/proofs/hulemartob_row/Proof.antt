@@ -37,10 +37,10 @@ use Rattle.records.proofs.row as rr
 use Rattle.records.proofs.row.Symbol as rr-def
 use Rattle.records.proofs.row.Symbol.{name as #records·row}
 use Rattle.records.proofs.row.Met as rr-thm
-use Rattle.plain.proofs.row_told as rt
-use Rattle.plain.proofs.row_told.Symbol as rt-def
-use Rattle.plain.proofs.row_told.Symbol.{name as #plain·row-told}
-use Rattle.plain.proofs.row_told.Met as rt-thm
+use Rattle.telling.proofs.row_told as rt
+use Rattle.telling.proofs.row_told.Symbol as rt-def
+use Rattle.telling.proofs.row_told.Symbol.{name as #telling·row-told}
+use Rattle.telling.proofs.row_told.Met as rt-thm
 use Rattle.column_c.proofs.hulemartob_row.Key.{name as #column-c·hulemartob-row}
 use Rattle.column_c.proofs.hulemartob_row as f
 use Rattle.column_c.proofs.hulemartob_row.Statement as stated
@@ -118,7 +118,7 @@ module _ {M : Type 1} (𝓤 : URA M) (H : Heap 𝓤) (A : Atoms 𝓤) (W : Given
   abbrev Says-rt : Made → RowRead → ℕ → List ℕ → Type 0
   Says-rt made answer v refusal′ = Answers (after (madeMeaning made) (rowMeaning answer)) v refusal′
 
-  module _ (C : Calls 𝓤 H) (Λ : Loops 𝓤 H) (fm : FmC 𝓤 H (W .laws) C) (known-cf : Triple 𝓤 (C #plain·column-from) (From 𝓤 H A mem run)) (known-co : Triple 𝓤 (C #plain·column-of) (Of 𝓤 H A mem run)) (known-wr : Triple 𝓤 (C #plain·window-row) (Place 𝓤 H A mem run)) (known-rr : Triple 𝓤 (C #records·row) (Read 𝓤 H A mem run)) (known-rt : Triple 𝓤 (C #plain·row-told) (Told 𝓤 H A mem run)) where
+  module _ (C : Calls 𝓤 H) (Λ : Loops 𝓤 H) (fm : FmC 𝓤 H (W .laws) C) (known-cf : Triple 𝓤 (C #plain·column-from) (From 𝓤 H A mem run)) (known-co : Triple 𝓤 (C #plain·column-of) (Of 𝓤 H A mem run)) (known-wr : Triple 𝓤 (C #plain·window-row) (Place 𝓤 H A mem run)) (known-rr : Triple 𝓤 (C #records·row) (Read 𝓤 H A mem run)) (known-rt : Triple 𝓤 (C #telling·row-told) (Told 𝓤 H A mem run)) where
     walk : length (table .now) < 2 ^ 64 → length (bytes .now) < 2 ^ 64 → row < 2 ^ 32
         → ent 𝓤 (onEntry 𝓤 H A f.signature κs (q₀, (q₁, (q₂, (q₃, tt)))) x at) (WpFn 𝓤 H C Λ code.function (column-at ∷ table-at ∷ bytes-at ∷ vint w32 row ∷ refusal-at ∷ []) Post)
     walk table-fits bytes-fits row-fits =
@@ -156,7 +156,7 @@ module _ {M : Type 1} (𝓤 : URA M) (H : Heap 𝓤) (A : Atoms 𝓤) (W : Given
         by ! (exits v (zrt .1 .1 .0) (answers (λ (col : Column). rowAt col (table .now) (bytes .now) row) (column .now) made made-is c-is (answer-is ∙ ap (rowAt c (table .now) (bytes .now)) w-is) v-is) (fits (number w64) v urt v-fits))))))))))))))))))))))
 
 module _ {M : Type 1} (𝓤 : URA M) (H : Heap 𝓤) (A : Atoms 𝓤) (W : Given 𝓤 H A) (mem : Memory → SProp 𝓤) (run : Routine → Fun 𝓤) where
-  walks : (𝓣 : Tables 𝓤 H) → Triple 𝓤 (𝓣 .C #plain·column-from) (From 𝓤 H A mem run) → Triple 𝓤 (𝓣 .C #plain·column-of) (Of 𝓤 H A mem run) → Triple 𝓤 (𝓣 .C #plain·window-row) (Place 𝓤 H A mem run) → Triple 𝓤 (𝓣 .C #records·row) (Read 𝓤 H A mem run) → Triple 𝓤 (𝓣 .C #plain·row-told) (Told 𝓤 H A mem run)
+  walks : (𝓣 : Tables 𝓤 H) → Triple 𝓤 (𝓣 .C #plain·column-from) (From 𝓤 H A mem run) → Triple 𝓤 (𝓣 .C #plain·column-of) (Of 𝓤 H A mem run) → Triple 𝓤 (𝓣 .C #plain·window-row) (Place 𝓤 H A mem run) → Triple 𝓤 (𝓣 .C #records·row) (Read 𝓤 H A mem run) → Triple 𝓤 (𝓣 .C #telling·row-told) (Told 𝓤 H A mem run)
       → Walks 𝓤 H A f.ended stayed (WpFn 𝓤 H (𝓣 .C) (𝓣 .Λ) code.function) (f.clauses 𝓤 H A mem run)
   walks 𝓣 k₁ k₂ k₃ k₄ k₅ =
       walked 𝓤 H A f.ended stayed (f.clauses 𝓤 H A mem run) (WpFn 𝓤 H (𝓣 .C) (𝓣 .Λ) code.function) (λ κs. (ptr-vals, (slice-vals, (slice-vals, (uint-vals w32, (ptr-vals, tt))))))
@@ -176,4 +176,4 @@ hulemartob-row-spec 𝓤 H 𝓜 𝓖 𝓡 =
     (cited 𝓤 H (Of 𝓤 H (𝓖 .A) (𝓜 .mem) (𝓡 .run)) 𝓜 𝓡 code.env #plain·column-of co-def.routine code.calls-plain·column-of (co-thm.met 𝓤 H 𝓜 𝓖 𝓡))
     (cited 𝓤 H (Place 𝓤 H (𝓖 .A) (𝓜 .mem) (𝓡 .run)) 𝓜 𝓡 code.env #plain·window-row wr-def.routine code.calls-plain·window-row (wr-thm.met 𝓤 H 𝓜 𝓖 𝓡))
     (cited 𝓤 H (Read 𝓤 H (𝓖 .A) (𝓜 .mem) (𝓡 .run)) 𝓜 𝓡 code.env #records·row rr-def.routine code.calls-records·row (rr-thm.met 𝓤 H 𝓜 𝓖 𝓡))
-    (cited 𝓤 H (Told 𝓤 H (𝓖 .A) (𝓜 .mem) (𝓡 .run)) 𝓜 𝓡 code.env #plain·row-told rt-def.routine code.calls-plain·row-told (rt-thm.met 𝓤 H 𝓜 𝓖 𝓡))))
+    (cited 𝓤 H (Told 𝓤 H (𝓖 .A) (𝓜 .mem) (𝓡 .run)) 𝓜 𝓡 code.env #telling·row-told rt-def.routine code.calls-telling·row-told (rt-thm.met 𝓤 H 𝓜 𝓖 𝓡))))

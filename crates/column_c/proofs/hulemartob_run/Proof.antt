@@ -37,10 +37,10 @@ use Rattle.records.proofs.run as rn
 use Rattle.records.proofs.run.Symbol as rn-def
 use Rattle.records.proofs.run.Symbol.{name as #records·run}
 use Rattle.records.proofs.run.Met as rn-thm
-use Rattle.plain.proofs.run_told as rt
-use Rattle.plain.proofs.run_told.Symbol as rt-def
-use Rattle.plain.proofs.run_told.Symbol.{name as #plain·run-told}
-use Rattle.plain.proofs.run_told.Met as rt-thm
+use Rattle.telling.proofs.run_told as rt
+use Rattle.telling.proofs.run_told.Symbol as rt-def
+use Rattle.telling.proofs.run_told.Symbol.{name as #telling·run-told}
+use Rattle.telling.proofs.run_told.Met as rt-thm
 use Rattle.column_c.proofs.hulemartob_run.Key.{name as #column-c·hulemartob-run}
 use Rattle.column_c.proofs.hulemartob_run as f
 use Rattle.column_c.proofs.hulemartob_run.Statement as stated
@@ -125,7 +125,7 @@ module _ {M : Type 1} (𝓤 : URA M) (H : Heap 𝓤) (A : Atoms 𝓤) (W : Given
   abbrev Says-rt : Made → RunRead → ℕ → List ℕ → Type 0
   Says-rt made answer v refusal′ = Answers (after (madeMeaning made) (runMeaning answer)) v refusal′
 
-  module _ (C : Calls 𝓤 H) (Λ : Loops 𝓤 H) (fm : FmC 𝓤 H (W .laws) C) (known-cf : Triple 𝓤 (C #plain·column-from) (From 𝓤 H A mem run)) (known-co : Triple 𝓤 (C #plain·column-of) (Of 𝓤 H A mem run)) (known-rn : Triple 𝓤 (C #records·run) (Ran 𝓤 H A mem run)) (known-rt : Triple 𝓤 (C #plain·run-told) (Told 𝓤 H A mem run)) where
+  module _ (C : Calls 𝓤 H) (Λ : Loops 𝓤 H) (fm : FmC 𝓤 H (W .laws) C) (known-cf : Triple 𝓤 (C #plain·column-from) (From 𝓤 H A mem run)) (known-co : Triple 𝓤 (C #plain·column-of) (Of 𝓤 H A mem run)) (known-rn : Triple 𝓤 (C #records·run) (Ran 𝓤 H A mem run)) (known-rt : Triple 𝓤 (C #telling·run-told) (Told 𝓤 H A mem run)) where
     walk : length (table .now) < 2 ^ 64 → length (bytes .now) < 2 ^ 64 → first < 2 ^ 32 → length (out .now) < 2 ^ 64
         → ent 𝓤 (onEntry 𝓤 H A f.signature κs (q₀, (q₁, (q₂, (q₃, (q₄, tt))))) x at) (WpFn 𝓤 H C Λ code.function (column-at ∷ table-at ∷ bytes-at ∷ vint w32 first ∷ out-at ∷ refusal-at ∷ []) Post)
     walk table-fits bytes-fits first-fits out-fits =
@@ -165,7 +165,7 @@ module _ {M : Type 1} (𝓤 : URA M) (H : Heap 𝓤) (A : Atoms 𝓤) (W : Given
         by ! (exits v (zrn .1 .1 .1 .1 .0) (zrt .1 .1 .0) (lists (λ (col : Column). decoded (rowAt col (table .now) (bytes .now)) (col .window .rows) first (length (out .now))) (column .now) made made-is (run-still _ first (length (out .now))) c-is answer-is v-is) long-out (fits (number w64) v urt v-fits))))))))))))))))))))))))))))
 
 module _ {M : Type 1} (𝓤 : URA M) (H : Heap 𝓤) (A : Atoms 𝓤) (W : Given 𝓤 H A) (mem : Memory → SProp 𝓤) (run : Routine → Fun 𝓤) where
-  walks : (𝓣 : Tables 𝓤 H) → Triple 𝓤 (𝓣 .C #plain·column-from) (From 𝓤 H A mem run) → Triple 𝓤 (𝓣 .C #plain·column-of) (Of 𝓤 H A mem run) → Triple 𝓤 (𝓣 .C #records·run) (Ran 𝓤 H A mem run) → Triple 𝓤 (𝓣 .C #plain·run-told) (Told 𝓤 H A mem run)
+  walks : (𝓣 : Tables 𝓤 H) → Triple 𝓤 (𝓣 .C #plain·column-from) (From 𝓤 H A mem run) → Triple 𝓤 (𝓣 .C #plain·column-of) (Of 𝓤 H A mem run) → Triple 𝓤 (𝓣 .C #records·run) (Ran 𝓤 H A mem run) → Triple 𝓤 (𝓣 .C #telling·run-told) (Told 𝓤 H A mem run)
       → Walks 𝓤 H A f.ended stayed (WpFn 𝓤 H (𝓣 .C) (𝓣 .Λ) code.function) (f.clauses 𝓤 H A mem run)
   walks 𝓣 k₁ k₂ k₃ k₄ =
       walked 𝓤 H A f.ended stayed (f.clauses 𝓤 H A mem run) (WpFn 𝓤 H (𝓣 .C) (𝓣 .Λ) code.function) (λ κs. (ptr-vals, (slice-vals, (slice-vals, (uint-vals w32, (slice-vals, (ptr-vals, tt)))))))
@@ -184,4 +184,4 @@ hulemartob-run-spec 𝓤 H 𝓜 𝓖 𝓡 =
     (cited 𝓤 H (From 𝓤 H (𝓖 .A) (𝓜 .mem) (𝓡 .run)) 𝓜 𝓡 code.env #plain·column-from cf-def.routine code.calls-plain·column-from (cf-thm.met 𝓤 H 𝓜 𝓖 𝓡))
     (cited 𝓤 H (Of 𝓤 H (𝓖 .A) (𝓜 .mem) (𝓡 .run)) 𝓜 𝓡 code.env #plain·column-of co-def.routine code.calls-plain·column-of (co-thm.met 𝓤 H 𝓜 𝓖 𝓡))
     (cited 𝓤 H (Ran 𝓤 H (𝓖 .A) (𝓜 .mem) (𝓡 .run)) 𝓜 𝓡 code.env #records·run rn-def.routine code.calls-records·run (rn-thm.met 𝓤 H 𝓜 𝓖 𝓡))
-    (cited 𝓤 H (Told 𝓤 H (𝓖 .A) (𝓜 .mem) (𝓡 .run)) 𝓜 𝓡 code.env #plain·run-told rt-def.routine code.calls-plain·run-told (rt-thm.met 𝓤 H 𝓜 𝓖 𝓡))))
+    (cited 𝓤 H (Told 𝓤 H (𝓖 .A) (𝓜 .mem) (𝓡 .run)) 𝓜 𝓡 code.env #telling·run-told rt-def.routine code.calls-telling·run-told (rt-thm.met 𝓤 H 𝓜 𝓖 𝓡))))

@@ -14,17 +14,17 @@ use Rattle.format.specs.Opening.{columnIn}
 use Rattle.format.specs.Sheets.{openedUnder}
 use Rattle.format.specs.Calls.{OpenedAs}
 use Rattle.blockwise_linear.specs.Reader.{firstCursor, blocksFrom, listed, Fillable}
-use Rattle.u64_based.specs.Opening.{tabled}
+use Rattle.loading.specs.Opening.{tabled}
 use Rattle.records.proofs.Types as Ty
 use Rattle.records.proofs.Opening.{fillable, opens}
-use Rattle.u64_based.proofs.open_plain_under as pl
-use Rattle.u64_based.proofs.open_plain_under.Symbol as pl-def
-use Rattle.u64_based.proofs.open_plain_under.Symbol.{name as #u64-based·open-plain-under}
-use Rattle.u64_based.proofs.open_plain_under.Met as pl-thm
-use Rattle.u64_based.proofs.opening.table_rows as tr
-use Rattle.u64_based.proofs.opening.table_rows.Symbol as tr-def
-use Rattle.u64_based.proofs.opening.table_rows.Symbol.{name as #u64-based·opening·table-rows}
-use Rattle.u64_based.proofs.opening.table_rows.Met as tr-thm
+use Rattle.loading.proofs.open_plain_under as pl
+use Rattle.loading.proofs.open_plain_under.Symbol as pl-def
+use Rattle.loading.proofs.open_plain_under.Symbol.{name as #loading·open-plain-under}
+use Rattle.loading.proofs.open_plain_under.Met as pl-thm
+use Rattle.loading.proofs.opening.table_rows as tr
+use Rattle.loading.proofs.opening.table_rows.Symbol as tr-def
+use Rattle.loading.proofs.opening.table_rows.Symbol.{name as #loading·opening·table-rows}
+use Rattle.loading.proofs.opening.table_rows.Met as tr-thm
 use Rattle.records.proofs.fill as fl
 use Rattle.records.proofs.fill.Symbol as fl-def
 use Rattle.records.proofs.fill.Symbol.{name as #records·fill}
@@ -95,7 +95,7 @@ module _ {M : Type 1} (𝓤 : URA M) (H : Heap 𝓤) (A : Atoms 𝓤) (W : Given
   abbrev Filled : ℕ → List Block → Type 0
   Filled rows zs = zs ≡ stored (listed (blocksFrom (bytes .now) (firstCursor (bytes .now) rows))) (table .now)
 
-  module _ (C : Calls 𝓤 H) (Λ : Loops 𝓤 H) (fm : FmC 𝓤 H (W .laws) C) (known-plain : Triple 𝓤 (C #u64-based·open-plain-under) (Plain 𝓤 H A mem run)) (known-rows : Triple 𝓤 (C #u64-based·opening·table-rows) (Rows 𝓤 H A mem run)) (known-fill : Triple 𝓤 (C #records·fill) (Fill 𝓤 H A mem run)) where
+  module _ (C : Calls 𝓤 H) (Λ : Loops 𝓤 H) (fm : FmC 𝓤 H (W .laws) C) (known-plain : Triple 𝓤 (C #loading·open-plain-under) (Plain 𝓤 H A mem run)) (known-rows : Triple 𝓤 (C #loading·opening·table-rows) (Rows 𝓤 H A mem run)) (known-fill : Triple 𝓤 (C #records·fill) (Fill 𝓤 H A mem run)) where
     walk : length (bytes .now) < 2 ^ 64 → m < 2 ^ 64 → ent 𝓤 (onEntry 𝓤 H A f.signature (κ, (κ₁, tt)) (q, (q₁, tt)) x at) (WpFn 𝓤 H C Λ code.function (vint w32 sheet ∷ bv ∷ tv ∷ []) Post)
     walk b-fits t-fits =
         qed W ((‵ (flft κ q) ⊛ (‵ (flft κ₁ q₁) ⊛ ‵ ftrue)) ∷ ‵ (owns (u32 ∷ ShrSlice (named 0) κ u8 ∷ MutSlice (named 1) κ₁ (Ty.block .row) ∷ []) x at) ∷ []) ∵ enter ! C Λ code.function (vint w32 sheet ∷ bv ∷ tv ∷ []) _ $
@@ -128,7 +128,7 @@ module _ {M : Type 1} (𝓤 : URA M) (H : Heap 𝓤) (A : Atoms 𝓤) (W : Given
         by ! (exits p (zs .1 .1 .0) (opens sheet (bytes .now) m p pe rows re (table .now) (zs .1 .1 .0) ze) long pis)))))))))))))))))))
 
 module _ {M : Type 1} (𝓤 : URA M) (H : Heap 𝓤) (A : Atoms 𝓤) (W : Given 𝓤 H A) (mem : Memory → SProp 𝓤) (run : Routine → Fun 𝓤) where
-  walks : (𝓣 : Tables 𝓤 H) → Triple 𝓤 (𝓣 .C #u64-based·open-plain-under) (Plain 𝓤 H A mem run) → Triple 𝓤 (𝓣 .C #u64-based·opening·table-rows) (Rows 𝓤 H A mem run) → Triple 𝓤 (𝓣 .C #records·fill) (Fill 𝓤 H A mem run)
+  walks : (𝓣 : Tables 𝓤 H) → Triple 𝓤 (𝓣 .C #loading·open-plain-under) (Plain 𝓤 H A mem run) → Triple 𝓤 (𝓣 .C #loading·opening·table-rows) (Rows 𝓤 H A mem run) → Triple 𝓤 (𝓣 .C #records·fill) (Fill 𝓤 H A mem run)
       → Walks 𝓤 H A f.ended stayed (WpFn 𝓤 H (𝓣 .C) (𝓣 .Λ) code.function) (f.clauses 𝓤 H A mem run)
   walks 𝓣 a₁ a₂ a₃ = walked 𝓤 H A f.ended stayed (f.clauses 𝓤 H A mem run) (WpFn 𝓤 H (𝓣 .C) (𝓣 .Λ) code.function) (λ κs. (uint-vals w32, (slice-vals, (slice-vals, tt)))) (λ κs. (uint-tells w32, (shr-slice-tells (named 0) (κs .0) u8, (mut-slice-tells (named 1) (κs .1 .0) (Ty.block .row), tt))))
       (λ κs qs bounds a _ are. via 𝓤 _ (fst∗ 𝓤 _ (emp 𝓤)) (walk 𝓤 H A W mem run (κs .0) (κs .1 .0) (qs .0) (qs .1 .0) (a .0) (a .1 .0) (a .1 .1 .0) (are .0 .1) (𝓣 .C) (𝓣 .Λ) (fmOf 𝓤 H (W .laws) 𝓣) a₁ a₂ a₃ (are .1 .0 .0 .1 .0) (are .1 .1 .0 .0 .1 .0)))
@@ -141,6 +141,6 @@ open-under-spec 𝓤 H 𝓜 𝓖 𝓡 =
     (let W = givenOf 𝓤 H 𝓜 𝓖 in let 𝓣 = tablesOf 𝓤 H 𝓜 (tables 𝓤 H 𝓜 𝓡 code.env) in
     walk-meets 𝓤 H (𝓖 .A) f.ended stayed W (goes-none 𝓤 H (𝓖 .A) W 2 (λ _. u32) yes (λ κs x f. refl), (goes-none-slice 𝓤 H (𝓖 .A) W 2 (0 ∷ []) tt (plain (λ _. u8)) yes, (goes-gave-slice 𝓤 H (𝓖 .A) W 2 1 tt (plain (λ _. Ty.block .row)), tt)))
     (f.clauses 𝓤 H (𝓖 .A) (𝓜 .mem) (𝓡 .run)) (WpFn 𝓤 H (𝓣 .C) (𝓣 .Λ) code.function) (WpFn-mono 𝓤 H (W .laws) 𝓣 code.function) (walks 𝓤 H (𝓖 .A) W (𝓜 .mem) (𝓡 .run) 𝓣
-    (cited 𝓤 H (Plain 𝓤 H (𝓖 .A) (𝓜 .mem) (𝓡 .run)) 𝓜 𝓡 code.env #u64-based·open-plain-under pl-def.routine code.calls-u64-based·open-plain-under (pl-thm.met 𝓤 H 𝓜 𝓖 𝓡))
-    (cited 𝓤 H (Rows 𝓤 H (𝓖 .A) (𝓜 .mem) (𝓡 .run)) 𝓜 𝓡 code.env #u64-based·opening·table-rows tr-def.routine code.calls-u64-based·opening·table-rows (tr-thm.met 𝓤 H 𝓜 𝓖 𝓡))
+    (cited 𝓤 H (Plain 𝓤 H (𝓖 .A) (𝓜 .mem) (𝓡 .run)) 𝓜 𝓡 code.env #loading·open-plain-under pl-def.routine code.calls-loading·open-plain-under (pl-thm.met 𝓤 H 𝓜 𝓖 𝓡))
+    (cited 𝓤 H (Rows 𝓤 H (𝓖 .A) (𝓜 .mem) (𝓡 .run)) 𝓜 𝓡 code.env #loading·opening·table-rows tr-def.routine code.calls-loading·opening·table-rows (tr-thm.met 𝓤 H 𝓜 𝓖 𝓡))
     (cited 𝓤 H (Fill 𝓤 H (𝓖 .A) (𝓜 .mem) (𝓡 .run)) 𝓜 𝓡 code.env #records·fill fl-def.routine code.calls-records·fill (fl-thm.met 𝓤 H 𝓜 𝓖 𝓡))))

@@ -21,7 +21,7 @@ use Rattle.format.specs.Typed.{storedAs}
 use Rattle.checking.specs.Checked.{CheckedAs}
 use Rattle.records.proofs.Types as Ty
 use Rattle.plain.specs.declared.kinds.Known.{Known}
-use Rattle.plain.specs.Checking.{verdictNumbers}
+use Rattle.telling.specs.Checking.{verdictNumbers}
 use Rattle.plain.specs.Explaining.{Tells}
 use Rattle.plain.specs.Kinds.{kindFrom, knownMeaning, kindOf, sheetOf}
 use Rattle.plain.specs.Numbers.{after}
@@ -45,10 +45,10 @@ use Rattle.checking.proofs.check_as as ck
 use Rattle.checking.proofs.check_as.Symbol as ck-def
 use Rattle.checking.proofs.check_as.Symbol.{name as #checking·check-as}
 use Rattle.checking.proofs.check_as.Met as ck-thm
-use Rattle.plain.proofs.checks.verdict_told as vt
-use Rattle.plain.proofs.checks.verdict_told.Symbol as vt-def
-use Rattle.plain.proofs.checks.verdict_told.Symbol.{name as #plain·checks·verdict-told}
-use Rattle.plain.proofs.checks.verdict_told.Met as vt-thm
+use Rattle.telling.proofs.checks.verdict_told as vt
+use Rattle.telling.proofs.checks.verdict_told.Symbol as vt-def
+use Rattle.telling.proofs.checks.verdict_told.Symbol.{name as #telling·checks·verdict-told}
+use Rattle.telling.proofs.checks.verdict_told.Met as vt-thm
 use Rattle.column_c.proofs.checks.hulemartob_check.Key.{name as #column-c·checks·hulemartob-check}
 use Rattle.column_c.proofs.checks.hulemartob_check as f
 use Rattle.column_c.proofs.checks.hulemartob_check.Statement as stated
@@ -136,7 +136,7 @@ module _ {M : Type 1} (𝓤 : URA M) (H : Heap 𝓤) (A : Atoms 𝓤) (W : Given
   abbrev Says-vt : Known → Checked → List ℕ → List ℕ → Type 0
   Says-vt known answer verdict′ refusal′ = Tells (after (knownMeaning known) (value (verdictNumbers (checkedMeaning answer)))) refusal′ (verdict .now) verdict′
 
-  module _ (C : Calls 𝓤 H) (Λ : Loops 𝓤 H) (fm : FmC 𝓤 H (W .laws) C) (known-kf : Triple 𝓤 (C #plain·kinds·kind-from) (From 𝓤 H A mem run)) (known-ko : Triple 𝓤 (C #plain·kinds·kind-of) (Of 𝓤 H A mem run)) (known-so : Triple 𝓤 (C #plain·kinds·sheet-of) (Under 𝓤 H A mem run)) (known-ck : Triple 𝓤 (C #checking·check-as) (Check 𝓤 H A mem run)) (known-vt : Triple 𝓤 (C #plain·checks·verdict-told) (Told 𝓤 H A mem run)) where
+  module _ (C : Calls 𝓤 H) (Λ : Loops 𝓤 H) (fm : FmC 𝓤 H (W .laws) C) (known-kf : Triple 𝓤 (C #plain·kinds·kind-from) (From 𝓤 H A mem run)) (known-ko : Triple 𝓤 (C #plain·kinds·kind-of) (Of 𝓤 H A mem run)) (known-so : Triple 𝓤 (C #plain·kinds·sheet-of) (Under 𝓤 H A mem run)) (known-ck : Triple 𝓤 (C #checking·check-as) (Check 𝓤 H A mem run)) (known-vt : Triple 𝓤 (C #telling·checks·verdict-told) (Told 𝓤 H A mem run)) where
     walk : kind < 2 ^ 32 → sheet < 2 ^ 32 → length (bytes .now) < 2 ^ 64 → length (values .now) < 2 ^ 64 → length (table .now) < 2 ^ 64
         → ent 𝓤 (onEntry 𝓤 H A f.signature κs (q₀, (q₁, (q₂, (q₃, (q₄, tt))))) x at) (WpFn 𝓤 H C Λ code.function (vint w32 kind ∷ vint w32 sheet ∷ bytes-at ∷ values-at ∷ table-at ∷ verdict-at ∷ refusal-at ∷ []) Post)
     walk kind-fits sheet-fits bytes-fits values-fits table-fits =
@@ -180,7 +180,7 @@ module _ {M : Type 1} (𝓤 : URA M) (H : Heap 𝓤) (A : Atoms 𝓤) (W : Given
         by ! (exits (zck .1 .1 .1 .1 .0) (zvt .1 .1 .0) (zvt .1 .1 .1 .0) (judges kind sheet (bytes .now) (values .now) (length (table .now)) known known-is k k-is under under-is answer-is u-is) long-table))))))))))))))))))))))))))))))))
 
 module _ {M : Type 1} (𝓤 : URA M) (H : Heap 𝓤) (A : Atoms 𝓤) (W : Given 𝓤 H A) (mem : Memory → SProp 𝓤) (run : Routine → Fun 𝓤) where
-  walks : (𝓣 : Tables 𝓤 H) → Triple 𝓤 (𝓣 .C #plain·kinds·kind-from) (From 𝓤 H A mem run) → Triple 𝓤 (𝓣 .C #plain·kinds·kind-of) (Of 𝓤 H A mem run) → Triple 𝓤 (𝓣 .C #plain·kinds·sheet-of) (Under 𝓤 H A mem run) → Triple 𝓤 (𝓣 .C #checking·check-as) (Check 𝓤 H A mem run) → Triple 𝓤 (𝓣 .C #plain·checks·verdict-told) (Told 𝓤 H A mem run)
+  walks : (𝓣 : Tables 𝓤 H) → Triple 𝓤 (𝓣 .C #plain·kinds·kind-from) (From 𝓤 H A mem run) → Triple 𝓤 (𝓣 .C #plain·kinds·kind-of) (Of 𝓤 H A mem run) → Triple 𝓤 (𝓣 .C #plain·kinds·sheet-of) (Under 𝓤 H A mem run) → Triple 𝓤 (𝓣 .C #checking·check-as) (Check 𝓤 H A mem run) → Triple 𝓤 (𝓣 .C #telling·checks·verdict-told) (Told 𝓤 H A mem run)
       → Walks 𝓤 H A f.ended stayed (WpFn 𝓤 H (𝓣 .C) (𝓣 .Λ) code.function) (f.clauses 𝓤 H A mem run)
   walks 𝓣 k₁ k₂ k₃ k₄ k₅ =
       walked 𝓤 H A f.ended stayed (f.clauses 𝓤 H A mem run) (WpFn 𝓤 H (𝓣 .C) (𝓣 .Λ) code.function) (λ κs. (uint-vals w32, (uint-vals w32, (slice-vals, (slice-vals, (slice-vals, (ptr-vals, (ptr-vals, tt))))))))
@@ -200,4 +200,4 @@ hulemartob-check-spec 𝓤 H 𝓜 𝓖 𝓡 =
     (cited 𝓤 H (Of 𝓤 H (𝓖 .A) (𝓜 .mem) (𝓡 .run)) 𝓜 𝓡 code.env #plain·kinds·kind-of ko-def.routine code.calls-plain·kinds·kind-of (ko-thm.met 𝓤 H 𝓜 𝓖 𝓡))
     (cited 𝓤 H (Under 𝓤 H (𝓖 .A) (𝓜 .mem) (𝓡 .run)) 𝓜 𝓡 code.env #plain·kinds·sheet-of so-def.routine code.calls-plain·kinds·sheet-of (so-thm.met 𝓤 H 𝓜 𝓖 𝓡))
     (cited 𝓤 H (Check 𝓤 H (𝓖 .A) (𝓜 .mem) (𝓡 .run)) 𝓜 𝓡 code.env #checking·check-as ck-def.routine code.calls-checking·check-as (ck-thm.met 𝓤 H 𝓜 𝓖 𝓡))
-    (cited 𝓤 H (Told 𝓤 H (𝓖 .A) (𝓜 .mem) (𝓡 .run)) 𝓜 𝓡 code.env #plain·checks·verdict-told vt-def.routine code.calls-plain·checks·verdict-told (vt-thm.met 𝓤 H 𝓜 𝓖 𝓡))))
+    (cited 𝓤 H (Told 𝓤 H (𝓖 .A) (𝓜 .mem) (𝓡 .run)) 𝓜 𝓡 code.env #telling·checks·verdict-told vt-def.routine code.calls-telling·checks·verdict-told (vt-thm.met 𝓤 H 𝓜 𝓖 𝓡))))

@@ -20,7 +20,7 @@ use Rattle.format.specs.Replaying.{Report, replayed}
 use Rattle.records.proofs.Types as Ty
 use Rattle.plain.specs.declared.Made.{Made}
 use Rattle.plain.specs.Numbers.{after, columnFrom, madeMeaning, columnOf}
-use Rattle.plain.specs.Replaying.{Reports}
+use Rattle.telling.specs.Replaying.{Reports}
 use Rattle.column_c.specs.Calls.{replayedFrom}
 use Rattle.column_c.proofs.Types as T′
 use Rattle.column_c.proofs.Joining.{joined}
@@ -36,10 +36,10 @@ use Rattle.records.proofs.replay as rp
 use Rattle.records.proofs.replay.Symbol as rp-def
 use Rattle.records.proofs.replay.Symbol.{name as #records·replay}
 use Rattle.records.proofs.replay.Met as rp-thm
-use Rattle.plain.proofs.replays.report_told as rt
-use Rattle.plain.proofs.replays.report_told.Symbol as rt-def
-use Rattle.plain.proofs.replays.report_told.Symbol.{name as #plain·replays·report-told}
-use Rattle.plain.proofs.replays.report_told.Met as rt-thm
+use Rattle.telling.proofs.replays.report_told as rt
+use Rattle.telling.proofs.replays.report_told.Symbol as rt-def
+use Rattle.telling.proofs.replays.report_told.Symbol.{name as #telling·replays·report-told}
+use Rattle.telling.proofs.replays.report_told.Met as rt-thm
 use Rattle.column_c.proofs.replays.hulemartob_replay.Key.{name as #column-c·replays·hulemartob-replay}
 use Rattle.column_c.proofs.replays.hulemartob_replay as f
 use Rattle.column_c.proofs.replays.hulemartob_replay.Statement as stated
@@ -120,7 +120,7 @@ module _ {M : Type 1} (𝓤 : URA M) (H : Heap 𝓤) (A : Atoms 𝓤) (W : Given
   abbrev Says-rt : Made → Replayed → List ℕ → List ℕ → Type 0
   Says-rt made answer report′ refusal′ = Reports (after (madeMeaning made) (replayedMeaning answer)) refusal′ (report .now) report′
 
-  module _ (C : Calls 𝓤 H) (Λ : Loops 𝓤 H) (fm : FmC 𝓤 H (W .laws) C) (known-cf : Triple 𝓤 (C #plain·column-from) (From 𝓤 H A mem run)) (known-co : Triple 𝓤 (C #plain·column-of) (Of 𝓤 H A mem run)) (known-rp : Triple 𝓤 (C #records·replay) (Ran 𝓤 H A mem run)) (known-rt : Triple 𝓤 (C #plain·replays·report-told) (Told 𝓤 H A mem run)) where
+  module _ (C : Calls 𝓤 H) (Λ : Loops 𝓤 H) (fm : FmC 𝓤 H (W .laws) C) (known-cf : Triple 𝓤 (C #plain·column-from) (From 𝓤 H A mem run)) (known-co : Triple 𝓤 (C #plain·column-of) (Of 𝓤 H A mem run)) (known-rp : Triple 𝓤 (C #records·replay) (Ran 𝓤 H A mem run)) (known-rt : Triple 𝓤 (C #telling·replays·report-told) (Told 𝓤 H A mem run)) where
     walk : length (table .now) < 2 ^ 64 → length (bytes .now) < 2 ^ 64 → length (recording .now) < 2 ^ 64
         → ent 𝓤 (onEntry 𝓤 H A f.signature κs (q₀, (q₁, (q₂, (q₃, (q₄, (q₅, tt)))))) x at) (WpFn 𝓤 H C Λ code.function (column-at ∷ table-at ∷ bytes-at ∷ recording-at ∷ report-at ∷ refusal-at ∷ []) Post)
     walk table-fits bytes-fits recording-fits =
@@ -156,7 +156,7 @@ module _ {M : Type 1} (𝓤 : URA M) (H : Heap 𝓤) (A : Atoms 𝓤) (W : Given
         by ! (exits (zrt .1 .1 .0) (zrt .1 .1 .1 .0) (subst (λ (o : Outcome Report). Reports o (zrt .1 .1 .1 .0) (report .now) (zrt .1 .1 .0)) (joined (λ (col : Column). replayed (rowAt col (table .now) (bytes .now)) (col .window .rows) (recording .now)) (column .now) made made-is c-is answer-is) u-is)))))))))))))))))))))))
 
 module _ {M : Type 1} (𝓤 : URA M) (H : Heap 𝓤) (A : Atoms 𝓤) (W : Given 𝓤 H A) (mem : Memory → SProp 𝓤) (run : Routine → Fun 𝓤) where
-  walks : (𝓣 : Tables 𝓤 H) → Triple 𝓤 (𝓣 .C #plain·column-from) (From 𝓤 H A mem run) → Triple 𝓤 (𝓣 .C #plain·column-of) (Of 𝓤 H A mem run) → Triple 𝓤 (𝓣 .C #records·replay) (Ran 𝓤 H A mem run) → Triple 𝓤 (𝓣 .C #plain·replays·report-told) (Told 𝓤 H A mem run)
+  walks : (𝓣 : Tables 𝓤 H) → Triple 𝓤 (𝓣 .C #plain·column-from) (From 𝓤 H A mem run) → Triple 𝓤 (𝓣 .C #plain·column-of) (Of 𝓤 H A mem run) → Triple 𝓤 (𝓣 .C #records·replay) (Ran 𝓤 H A mem run) → Triple 𝓤 (𝓣 .C #telling·replays·report-told) (Told 𝓤 H A mem run)
       → Walks 𝓤 H A f.ended stayed (WpFn 𝓤 H (𝓣 .C) (𝓣 .Λ) code.function) (f.clauses 𝓤 H A mem run)
   walks 𝓣 k₁ k₂ k₃ k₄ =
       walked 𝓤 H A f.ended stayed (f.clauses 𝓤 H A mem run) (WpFn 𝓤 H (𝓣 .C) (𝓣 .Λ) code.function) (λ κs. (ptr-vals, (slice-vals, (slice-vals, (slice-vals, (ptr-vals, (ptr-vals, tt)))))))
@@ -175,4 +175,4 @@ hulemartob-replay-spec 𝓤 H 𝓜 𝓖 𝓡 =
     (cited 𝓤 H (From 𝓤 H (𝓖 .A) (𝓜 .mem) (𝓡 .run)) 𝓜 𝓡 code.env #plain·column-from cf-def.routine code.calls-plain·column-from (cf-thm.met 𝓤 H 𝓜 𝓖 𝓡))
     (cited 𝓤 H (Of 𝓤 H (𝓖 .A) (𝓜 .mem) (𝓡 .run)) 𝓜 𝓡 code.env #plain·column-of co-def.routine code.calls-plain·column-of (co-thm.met 𝓤 H 𝓜 𝓖 𝓡))
     (cited 𝓤 H (Ran 𝓤 H (𝓖 .A) (𝓜 .mem) (𝓡 .run)) 𝓜 𝓡 code.env #records·replay rp-def.routine code.calls-records·replay (rp-thm.met 𝓤 H 𝓜 𝓖 𝓡))
-    (cited 𝓤 H (Told 𝓤 H (𝓖 .A) (𝓜 .mem) (𝓡 .run)) 𝓜 𝓡 code.env #plain·replays·report-told rt-def.routine code.calls-plain·replays·report-told (rt-thm.met 𝓤 H 𝓜 𝓖 𝓡))))
+    (cited 𝓤 H (Told 𝓤 H (𝓖 .A) (𝓜 .mem) (𝓡 .run)) 𝓜 𝓡 code.env #telling·replays·report-told rt-def.routine code.calls-telling·replays·report-told (rt-thm.met 𝓤 H 𝓜 𝓖 𝓡))))
