@@ -1,8 +1,8 @@
 -- The chunk at hand of the rows up to an end, and what decoding it found.
 --     chunk-some, chunk-to                          it has rows, and ends by the end
---     chunk-based, block-based                      a walk's, as the column counts
 --     in-block                                      its rows, read with its block
---     whole-long, whole-run, refused-run            what decoding it found
+--     decoded-at                                    what decoding it found, with the table
+--     whole-run, refused-run                        the same by its answer
 --     front-chunk                                   a buffer's front of its size
 -- Assumes nothing.
 use Prim.Native.Nat.{ℕ, _+_, _-_, _/_, _%_, _^_, _<_, _≤_}
@@ -13,17 +13,15 @@ use lib.ListN.{length, take}
 use Rattle.format.specs.declared.Block.{Block}
 use Rattle.format.specs.declared.Column.{Column}
 use Rattle.format.specs.declared.Refusal.{Refusal}
-use Rattle.format.specs.Outcome.{Outcome.value}
+use Rattle.format.specs.Outcome.{Outcome, Outcome.value}
 use Rattle.format.specs.Reading.{columnRow, blockAt, rowIn, rowAt}
 use Rattle.format.specs.Refusals.{numbered}
 use Rattle.format.specs.Runs.{readRun}
-use Rattle.format.proofs.Runs.{run-agree, run-long}
+use Rattle.format.proofs.Runs.{run-agree}
 use Rattle.format.proofs.Lists.{front-length}
 use Rattle.reading.specs.declared.reader.Decoded.{Decoded}
 use Rattle.reading.specs.declared.reader.Decoded.the-variants.{Whole, Refused as NotDecoded}
-use Rattle.chunks.specs.declared.walks.Walk.{Walk}
 use Rattle.reading.specs.Chunks.{DecodedAs, Chunk, chunkSize}
-use Rattle.chunks.specs.Walks.{nextChunk}
 use Rattle.reading.proofs.Moving.{any-block}
 
 module _ (q at end n : ℕ) (to : at < end) (size : n ≡ chunkSize q (end - at)) where
@@ -33,14 +31,6 @@ module _ (q at end n : ℕ) (to : at < end) (size : n ≡ chunkSize q (end - at)
   pub chunk-to : at + n ≤ end
   chunk-to = omega (arith, size)
 
--- a walk's chunk, where its base is a column's first row
-pub chunk-based : (w : Walk) {first n : ℕ} → w .base ≡ first → n ≡ nextChunk w → n ≡ chunkSize (first + w .at) (w .end - w .at)
-chunk-based w e size = rw e at size
-
--- and its block
-pub block-based : (w : Walk) (t : List Block) {first : ℕ} {b : Block} → w .base ≡ first → b ≡ blockAt t ((w .base + w .at) % 2 ^ 32 / 512) → b ≡ blockAt t ((first + w .at) % 2 ^ 32 / 512)
-block-based w t e block = rw e at block
-
 -- read with the chunk's block out of the table
 pub in-block : (col : Column) → col .rows < 2 ^ 32 → (t : List Block) (s : List ℕ) (r n : ℕ) {blocks : ℕ} {b : Block} → blocks ≡ length t → b ≡ blockAt t (columnRow col r % 2 ^ 32 / 512)
     → columnRow col r % 512 + n ≤ 512 → (x : ℕ) → r ≤ x → x < r + n → rowIn col blocks b s x ≡ rowAt col t s x
@@ -48,21 +38,18 @@ in-block col few t s r n {blocks} {b} number block one x low high =
     let same : columnRow col r % 2 ^ 32 / 512 ≡ columnRow col x % 2 ^ 32 / 512 = omega arith in
     rw (number, block, same) (any-block col few x t s)
 
-module _ (col : Column) (few : col .rows < 2 ^ 32) (bytes : List ℕ) (at left n blocks : ℕ) (b : Block) (size : n ≡ chunkSize (columnRow col at) left) {list : List ℕ} {d : Decoded}
-    (means : DecodedAs (readRun (rowIn col blocks b bytes) at n) d list) where
-  pub whole-long : d ≡ Whole → length list ≡ n
-  whole-long is = run-long (rowIn col blocks b bytes) at n list (sym (rw is at (means .answer)))
+-- what decoding it found, with the table
+pub decoded-at : (col : Column) → col .rows < 2 ^ 32 → (bytes : List ℕ) (at left n blocks : ℕ) (b : Block) → n ≡ chunkSize (columnRow col at) left → {list : List ℕ} {d : Decoded}
+    → DecodedAs (readRun (rowIn col blocks b bytes) at n) d list → (t : List Block) → blocks ≡ length t → b ≡ blockAt t (columnRow col at % 2 ^ 32 / 512) → DecodedAs (readRun (rowAt col t bytes) at n) d list
+decoded-at col few bytes at left n blocks b size means t number block =
+    record { answer = means .answer ∙ run-agree (rowIn col blocks b bytes) (rowAt col t bytes) at n (in-block col few t bytes at n number block (omega (arith, size))) }
 
-  -- with the table
-  module _ (t : List Block) (number : blocks ≡ length t) (block : b ≡ blockAt t (columnRow col at % 2 ^ 32 / 512)) where
-    by-table : readRun (rowIn col blocks b bytes) at n ≡ readRun (rowAt col t bytes) at n
-    by-table = run-agree (rowIn col blocks b bytes) (rowAt col t bytes) at n (in-block col few t bytes at n number block (omega (arith, size)))
+module _ {o : Outcome (List ℕ)} {list : List ℕ} {d : Decoded} (means : DecodedAs o d list) where
+  pub whole-run : d ≡ Whole → o ≡ value list
+  whole-run is = sym (rw is at (means .answer))
 
-    pub whole-run : d ≡ Whole → readRun (rowAt col t bytes) at (length list) ≡ value list
-    whole-run is = ap (readRun (rowAt col t bytes) at) (whole-long is) ∙ sym by-table ∙ sym (rw is at (means .answer))
-
-    pub refused-run : {x : Refusal} → d ≡ NotDecoded x → readRun (rowAt col t bytes) at n ≡ numbered x
-    refused-run is = sym by-table ∙ sym (rw is at (means .answer))
+  pub refused-run : {x : Refusal} → d ≡ NotDecoded x → o ≡ numbered x
+  refused-run is = sym (rw is at (means .answer))
 
 -- a buffer's front of the chunk's size is the chunk's
 pub front-chunk : (col : Column) (r size : ℕ) (buffer : List ℕ) (room : ℕ) → length buffer ≡ 512 → r < col .window .rows → size ≡ chunkSize (columnRow col r) (col .window .rows - r) → 512 ≤ room

@@ -3,8 +3,6 @@
 -- a chunk
 pub mod Chunks
 pub mod Stretches
--- looking rows up
-pub mod Scans
-pub mod Turns
--- lookups and runs under way
-pub mod Walking
+-- its values
+pub mod Rows
+pub mod Copies

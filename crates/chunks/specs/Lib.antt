@@ -1,2 +1,2 @@
+pub mod Rows
 pub mod Stretch
-pub mod Walks

@@ -77,7 +77,7 @@ fn take_through(
     let answer = reading::reader::decode(column, blocks, block, bytes, WindowRow(first), values);
     match answer {
         Decoded::Whole => {
-            crate::runs::copy(values, out, 0);
+            crate::copy(values, out, 0);
             Stretch::Whole(values.len())
         }
         Decoded::Refused(_) => store_rows(column, blocks, block, bytes, first, size, out),
@@ -100,7 +100,7 @@ pub fn take(
     }
     let mut buffer = [0u64; 512];
     let at = reading::reader::column_row(column.window.first, WindowRow(first));
-    let size = crate::walks::chunk_size(at, column.window.rows - first);
+    let size = crate::chunk_size(at, column.window.rows - first);
     take_through(
         column,
         blocks,

@@ -1,5 +1,5 @@
 -- The contracts determine what the calls answer and what every lent entry holds afterwards: two results that they allow coincide.
---     block-determined, open-determined, open-under-determined, row-determined, lookup-determined, run-determined, chunk-determined, replay-determined
+--     block-determined, open-determined, open-under-determined, row-determined, lookup-determined, run-determined, chunk-determined
 -- Assumes nothing.
 use Prim.Native.Nat.{ℕ, _-_}
 use mathlib.Core.Path.{_≡_, sym, ap, _∙_}
@@ -9,19 +9,17 @@ use Rattle.format.specs.declared.Block.{Block}
 use Rattle.format.specs.declared.Column.{Column}
 use Rattle.format.specs.declared.Found.{Found}
 use Rattle.format.specs.declared.Opened.{Opened}
-use Rattle.format.specs.declared.Replayed.{Replayed}
 use Rattle.format.specs.declared.RowRead.{RowRead}
 use Rattle.format.specs.declared.RunRead.{RunRead}
 use Rattle.format.specs.Lookup.{lookedUp, within}
 use Rattle.format.specs.Opening.{Loaded, opened}
 use Rattle.format.specs.Outcome.{Outcome}
 use Rattle.format.specs.Reading.{columnRow, blockAt, rowAt}
-use Rattle.format.specs.Refusals.{rowMeaning, replayedMeaning}
-use Rattle.format.specs.Replaying.{replayed}
+use Rattle.format.specs.Refusals.{rowMeaning}
 use Rattle.format.specs.Runs.{decoded}
 use Rattle.format.specs.Sheets.{openedUnder}
 use Rattle.format.specs.Calls.{FoundAs, RunAs, OpenedAs}
-use Rattle.format.proofs.Answers.{numbered-injective, opened-injective, row-injective, found-injective, run-injective, replayed-injective}
+use Rattle.format.proofs.Answers.{numbered-injective, opened-injective, row-injective, found-injective, run-injective}
 use Rattle.format.proofs.Outcomes.{not-value}
 use Rattle.chunks.specs.declared.taking.Stretch.{Stretch}
 use Rattle.chunks.specs.declared.taking.Stretch.the-variants.{Whole, Stopped}
@@ -80,8 +78,3 @@ pub chunk-determined : (column : Column) (table : List Block) (bytes : List ℕ)
     → (a ≡ b) × (after ≡ after′)
 chunk-determined column table bytes first out a b after after′ p q =
     (stretch-same a b (p .count ∙ sym (q .count)) (p .end ∙ sym (q .end)), p .list ∙ sym (q .list))
-
--- two answers of `replay`
-pub replay-determined : (column : Column) (table : List Block) (bytes recording : List ℕ) (a b : Replayed)
-    → replayedMeaning a ≡ replayed (rowAt column table bytes) (column .window .rows) recording → replayedMeaning b ≡ replayed (rowAt column table bytes) (column .window .rows) recording → a ≡ b
-replay-determined column table bytes recording a b p q = replayed-injective a b (p ∙ sym q)

@@ -5,7 +5,6 @@ pub mod Tables
 -- the walks by hand
 pub mod Types
 pub mod Rounds
-pub mod Replays
 pub mod Filling
 pub mod Opening
 -- what the contracts come to

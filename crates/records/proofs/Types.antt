@@ -1,7 +1,6 @@
 -- The data of the walks by hand, and where a block of a table lies.
 --     column-rows, column-window, window-rows
 --                                   a column's rows are below 2^32, its window fits, and so are that's rows
---     replay-answer                 the answer of a replay under way fits
 --     step-block, step-next         a step's block and its next place fit
 --     place-fits, place-block       the bytes before a block fit a usize, and are 32 a block
 -- Assumes nothing.
@@ -15,7 +14,6 @@ use denote.Struct.Laws as LL
 use Rattle.walking.proofs.Data.{Data, struct, enum, vals, Fits}
 use Rattle.format.specs.declared.Column.{Column}
 use Rattle.format.specs.declared.Window.{Window}
-use Rattle.replaying.specs.declared.walking.Walk.{Walk}
 use Rattle.blockwise_linear.specs.declared.reader.Step.{Step}
 use Rattle.format.proofs.Block as B
 use Rattle.format.proofs.Block.Laws as B′
@@ -39,12 +37,8 @@ use Rattle.blockwise_linear.proofs.reader.Step as S
 use Rattle.blockwise_linear.proofs.reader.Step.Laws as S′
 use Rattle.chunks.proofs.taking.Stretch as T
 use Rattle.chunks.proofs.taking.Stretch.Laws as T′
-use Rattle.replaying.proofs.walking.Walk as Y
-use Rattle.replaying.proofs.walking.Walk.Laws as Y′
-use Rattle.format.proofs.Replayed as Z
-use Rattle.format.proofs.Replayed.Laws as Z′
-use Rattle.chunks.proofs.walks.Walk as W
-use Rattle.chunks.proofs.walks.Walk.Laws as W′
+use Rattle.walks.proofs.Walk as W
+use Rattle.walks.proofs.Walk.Laws as W′
 
 abbrev pub block : Data
 block = struct B.the-type B′.the-laws B′.the-plain
@@ -76,12 +70,6 @@ walk = struct W.the-type W′.the-laws W′.the-plain
 abbrev pub stretch : Data
 stretch = enum T.the-type T′.the-laws tt T′.the-plain
 
-abbrev pub replayed : Data
-replayed = enum Z.the-type Z′.the-laws tt Z′.the-plain
-
-abbrev pub replay : Data
-replay = struct Y.the-type Y′.the-laws Y′.the-plain
-
 abbrev pub cursor : Data
 cursor = struct K.the-type K′.the-laws K′.the-plain
 
@@ -96,9 +84,6 @@ column-window c is = LL.owed C.the-type C′.the-laws c (vals column c) is .1 .1
 
 pub window-rows : (w : Window) → Fits window w → w .rows < 2 ^ 32
 window-rows w is = LL.owed P.the-type P′.the-laws w (vals window w) is .1 .0 .1
-
-pub replay-answer : (w : Walk) → Fits replay w → Fits replayed (w .answer)
-replay-answer w is = LL.owed Y.the-type Y′.the-laws w (vals replay w) is .1 .1 .1 .1 .1 .1 .1 .0
 
 pub step-block : (s : Step) → Fits step s → Fits block (s .block)
 step-block s is = LL.owed S.the-type S′.the-laws s (vals step s) is .0

@@ -6,13 +6,12 @@ ghost use mathlib.Core.Path.{_≡_};
 ghost use Prim.Native.Nat.{_-_, _/_, _%_, _^_};
 ghost use lib.ListN.{length};
 ghost use Rattle.format.specs.Outcome.{stored};
-ghost use Rattle.format.specs.Refusals.{rowMeaning, replayedMeaning};
+ghost use Rattle.format.specs.Refusals.{rowMeaning};
 ghost use Rattle.format.specs.Opening.{opened};
 ghost use Rattle.format.specs.Sheets.{openedUnder};
 ghost use Rattle.format.specs.Lookup.{lookedUp, within};
 ghost use Rattle.format.specs.Reading.{noBlock, columnRow, blockAt, rowAt};
 ghost use Rattle.format.specs.Runs.{decoded};
-ghost use Rattle.format.specs.Replaying.{replayed};
 ghost use Rattle.format.specs.Calls.{OpenedAs, FoundAs, RunAs};
 ghost use Rattle.reading.specs.Chunks.{chunkSize};
 ghost use Rattle.chunks.specs.Stretch.{StretchAs};
@@ -23,7 +22,6 @@ use format::Column;
 use format::Found;
 use format::Line;
 use format::Opened;
-use format::Replayed;
 use format::RowRead;
 use format::RunRead;
 use format::WindowRow;
@@ -86,13 +84,13 @@ pub fn lookup(
 {
     let blocks = table.len();
     let window = column.window;
-    let mut w = chunks::finding::begin(window, first, end);
+    let mut w = finding::begin(window, first, end);
     while w.going {
-        let k = chunks::walks::block_of(w);
+        let k = walks::block_of(w);
         let block = block_at(table, k);
-        w = chunks::finding::step(column, blocks, block, bytes, low, high, w, found);
+        w = finding::step(column, blocks, block, bytes, low, high, w, found);
     }
-    chunks::finding::answer(w)
+    finding::answer(w)
 }
 
 // The values of the window's rows from `first` on, as many as the lent list has entries, into that list.
@@ -102,13 +100,13 @@ pub fn run(column: Column, table: &[Block], bytes: &[u8], first: u32, out: &mut 
     let blocks = table.len();
     let rows = out.len();
     let window = column.window;
-    let mut w = chunks::runs::begin(window, first, rows);
+    let mut w = runs::begin(window, first, rows);
     while w.going {
-        let k = chunks::walks::block_of(w);
+        let k = walks::block_of(w);
         let block = block_at(table, k);
-        w = chunks::runs::step(column, blocks, block, bytes, w, out);
+        w = runs::step(column, blocks, block, bytes, w, out);
     }
-    chunks::runs::answer(w)
+    runs::answer(w)
 }
 
 // The block of a chunk that begins with a row.
@@ -133,21 +131,6 @@ pub fn chunk(
     let k = block_from(column, first);
     let block = block_at(table, k);
     chunks::taking::take(column, blocks, block, bytes, first, out)
-}
-
-// Runs the recorded lookups one after another, up to the first whose rows are not the recorded ones.
-pub fn replay(column: Column, table: &[Block], bytes: &[u8], recording: &[u8]) -> Replayed
-    ensures { λ r. ⌜ replayedMeaning r ≡ replayed (rowAt column (now (table .entry)) (now (bytes .entry))) (column .window .rows) (now (recording .entry)) ⌝ }
-{
-    let blocks = table.len();
-    let rows = column.window.rows;
-    let mut w = replaying::walking::begin(rows, recording);
-    while w.going {
-        let k = replaying::walking::block_of(column, w);
-        let block = block_at(table, k);
-        w = replaying::walking::step(column, blocks, block, bytes, recording, w);
-    }
-    w.answer
 }
 
 // Internal: asks for blocks that were checked, and for room. The blocks of so many rows are put into the table, one after another.

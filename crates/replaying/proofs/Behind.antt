@@ -12,8 +12,8 @@ use Rattle.format.specs.Lookup.{passes, allRead, rowsPassing}
 use Rattle.format.specs.Outcome.{Outcome, Outcome.value, Outcome.refusal, _>>=_, pick}
 use Rattle.format.specs.Runs.{readRun}
 use Rattle.format.proofs.Outcomes.{not-value, by-step}
-use Rattle.chunks.specs.Walks.{rowsIn}
-use Rattle.chunks.proofs.Turns.{all-run, all-refused, rows-run}
+use Rattle.chunks.specs.Rows.{rowsAmong}
+use Rattle.chunks.proofs.Rows.{picked, all-run, all-refused, rows-run}
 
 -- the rows up to an end, cut in two
 cut : (r end k : ℕ) → r + k ≤ end → end - r ≡ k + (end - (r + k))
@@ -50,17 +50,13 @@ module _ (read : ℕ → Outcome ℕ) where
   all-none r end h = let none : end - r ≡ 0 = omega arith in rw none
 
   module _ (test : ℕ → Bool) where
-    picked : (t : Bool) (r : ℕ) (xs ys : List ℕ) → pick t (r ∷ (xs ++ ys)) (xs ++ ys) ≡ pick t (r ∷ xs) xs ++ ys
-    picked true r xs ys = refl
-    picked false r xs ys = refl
-
     rows-joined : (r m n : ℕ) → rowsPassing read test r (m + n) ≡ rowsPassing read test r m ++ rowsPassing read test (r + m) n
     unfolding rowsPassing
     rows-joined r zero n = rw (zero-add n, add-zero r)
     rows-joined r (suc m) n = rw (suc-add m n, rows-joined (suc r) m n, suc-add r m, add-suc r m) (picked (passes test (read r)) r (rowsPassing read test (suc r) m) (rowsPassing read test (suc (r + m)) n))
 
     pub rows-behind : (r end k : ℕ) (vs : List ℕ) → r + k ≤ end → readRun read r k ≡ value vs
-        → rowsPassing read test r (end - r) ≡ rowsIn test r vs ++ rowsPassing read test (r + k) (end - (r + k))
+        → rowsPassing read test r (end - r) ≡ rowsAmong test r vs ++ rowsPassing read test (r + k) (end - (r + k))
     rows-behind r end k vs h e = ap (rowsPassing read test r) (cut r end k h) ∙ rows-joined r k (end - (r + k)) ∙ ap (λ (l : List ℕ). l ++ rowsPassing read test (r + k) (end - (r + k))) (rows-run read test r k vs e)
 
     pub rows-none : (r end : ℕ) → end ≤ r → rowsPassing read test r (end - r) ≡ []

@@ -8,16 +8,15 @@ use mathlib.Core.Path.{_≡_, refl, sym, ap, _∙_}
 use mathlib.Core.Bool.{Bool, true, false}
 use mathlib.Core.List.{List, [], _∷_, _++_}
 use native.Mathlib.Nat.{add-zero}
-use native.Mathlib.Numerals.{add-one}
 use native.Mathlib.Omega.{arith}
-use lib.ListN.{length, drop, getD, drop-of-length-le}
-use lib.Seq.{drop-cons}
+use lib.ListN.{length, drop, getD}
 use borrow.Author.Tests.{eq-eqb, ne-eqb}
 use Rattle.format.specs.declared.Recording.{Recording}
 use Rattle.format.specs.declared.Recorded.{Recorded}
 use Rattle.format.specs.Outcome.{pick}
 use Rattle.format.specs.Replaying.{listedAt, listedFrom, sameRows}
-use Rattle.chunks.specs.Walks.{rowsIn}
+use Rattle.chunks.specs.Rows.{rowsAmong}
+use Rattle.chunks.proofs.Rows.{picked, rows-next, rows-none}
 use Rattle.replaying.specs.Walking.{toCome}
 
 module _ (h : Recording) (s : List ℕ) (r : Recorded) where
@@ -55,43 +54,32 @@ module _ (h : Recording) (s : List ℕ) (r : Recorded) where
 
   module _ (test : ℕ → Bool) (values : List ℕ) (row : ℕ) where
     next : (i : ℕ) → i < length values
-        → rowsIn test (row + i) (drop i values) ≡ pick (test (getD values i 0)) ((row + i) ∷ rowsIn test (row + (i + 1)) (drop (i + 1) values)) (rowsIn test (row + (i + 1)) (drop (i + 1) values))
-    unfolding rowsIn
-    next i less =
-        let after : row + i + 1 ≡ row + suc i = omega arith in
-        rw (drop-cons values i 0 less, add-one i, after) refl
-
-    none : (i : ℕ) → length values ≤ i → rowsIn test (row + i) (drop i values) ≡ []
-    unfolding rowsIn
-    none i last = rw (drop-of-length-le values last) refl
-
-    picked : (t : Bool) (x : ℕ) (xs ys : List ℕ) → pick t (x ∷ xs) xs ++ ys ≡ pick t (x ∷ (xs ++ ys)) (xs ++ ys)
-    picked true x xs ys = refl
-    picked false x xs ys = refl
+        → rowsAmong test (row + i) (drop i values) ≡ pick (test (getD values i 0)) ((row + i) ∷ rowsAmong test (row + (i + 1)) (drop (i + 1) values)) (rowsAmong test (row + (i + 1)) (drop (i + 1) values))
+    next i less = let after : row + i + 1 ≡ row + (i + 1) = omega arith in rw (rows-next test (row + i) values i less, after) refl
 
     -- the rows found are the recorded ones, if those from value i on are those behind the first n
     pub record Meeting (before n i : ℕ) : Type 0 where
       pub few : n ≤ r .many
-      pub rest : (rest : List ℕ) → sameRows (rowsIn test row values ++ rest) (toCome h s r before) ≡ sameRows (rowsIn test (row + i) (drop i values) ++ rest) (toCome h s r n)
+      pub rest : (rest : List ℕ) → sameRows (rowsAmong test row values ++ rest) (toCome h s r before) ≡ sameRows (rowsAmong test (row + i) (drop i values) ++ rest) (toCome h s r n)
 
     pub meet-starts : (before : ℕ) → before ≤ r .many → Meeting before before 0
-    meet-starts before few = record { few = few; rest = λ rest. ap (λ (x : ℕ). sameRows (rowsIn test x values ++ rest) (toCome h s r before)) (sym (add-zero row)) }
+    meet-starts before few = record { few = few; rest = λ rest. ap (λ (x : ℕ). sameRows (rowsAmong test x values ++ rest) (toCome h s r before)) (sym (add-zero row)) }
 
     module _ {before n i : ℕ} (f : Meeting before n i) (less : i < length values) (t : Bool) (m : ℕ)
         (here : (rest : List ℕ) → sameRows (pick (test (getD values i 0)) ((row + i) ∷ rest) rest) (toCome h s r n) ≡ pick t (sameRows rest (toCome h s r m)) false) where
-      turn : (rest : List ℕ) → sameRows (rowsIn test row values ++ rest) (toCome h s r before) ≡ pick t (sameRows (rowsIn test (row + (i + 1)) (drop (i + 1) values) ++ rest) (toCome h s r m)) false
+      turn : (rest : List ℕ) → sameRows (rowsAmong test row values ++ rest) (toCome h s r before) ≡ pick t (sameRows (rowsAmong test (row + (i + 1)) (drop (i + 1) values) ++ rest) (toCome h s r m)) false
       turn rest =
-          let l = rowsIn test (row + (i + 1)) (drop (i + 1) values) in
+          let l = rowsAmong test (row + (i + 1)) (drop (i + 1) values) in
           f .rest rest
           ∙ ap (λ (k : List ℕ). sameRows (k ++ rest) (toCome h s r n)) (next i less)
-          ∙ ap (λ (k : List ℕ). sameRows k (toCome h s r n)) (picked (test (getD values i 0)) (row + i) l rest)
+          ∙ ap (λ (k : List ℕ). sameRows k (toCome h s r n)) (sym (picked (test (getD values i 0)) (row + i) l rest))
           ∙ here (l ++ rest)
 
       pub meet-more : t ≡ true → m ≤ r .many → Meeting before m (i + 1)
       meet-more is few = record { few = few; rest = λ rest. turn rest ∙ rw is refl }
 
-      pub meet-stops : t ≡ false → (rest : List ℕ) → sameRows (rowsIn test row values ++ rest) (toCome h s r before) ≡ pick t (sameRows rest (toCome h s r m)) false
+      pub meet-stops : t ≡ false → (rest : List ℕ) → sameRows (rowsAmong test row values ++ rest) (toCome h s r before) ≡ pick t (sameRows rest (toCome h s r m)) false
       meet-stops is rest = turn rest ∙ rw is refl
 
-    pub meet-ends : {before n i : ℕ} → Meeting before n i → length values ≤ i → (rest : List ℕ) → sameRows (rowsIn test row values ++ rest) (toCome h s r before) ≡ sameRows rest (toCome h s r n)
-    meet-ends {before} {n} {i} f last rest = f .rest rest ∙ ap (λ (k : List ℕ). sameRows (k ++ rest) (toCome h s r n)) (none i last)
+    pub meet-ends : {before n i : ℕ} → Meeting before n i → length values ≤ i → (rest : List ℕ) → sameRows (rowsAmong test row values ++ rest) (toCome h s r before) ≡ sameRows rest (toCome h s r n)
+    meet-ends {before} {n} {i} f last rest = f .rest rest ∙ ap (λ (k : List ℕ). sameRows (k ++ rest) (toCome h s r n)) (rows-none test (row + i) values i last)

@@ -27,7 +27,7 @@ use Rattle.format.specs.Outcome.{Outcome, Outcome.value, Outcome.refusal, _>>_,
 use Rattle.format.specs.Refusals.{numbered, replayedMeaning}
 use Rattle.format.specs.Replaying.{headerOf, recordAt, sameRows, areRows, foundAre, agrees, firstDiffering, reported, isRecording, replayed}
 use Rattle.format.specs.Runs.{readRun}
-use Rattle.chunks.specs.Walks.{rowsIn}
+use Rattle.chunks.specs.Rows.{rowsAmong}
 use Rattle.replaying.proofs.Behind.{all-behind, all-stops, all-none, rows-behind, rows-none}
 use Rattle.replaying.specs.declared.walking.Walk.{Walk}
 use Rattle.replaying.specs.Walking.{toCome, Onward, OnHand, Replaying, left}
@@ -47,16 +47,16 @@ differ-before (refusal number also) xs rest l e = refl
 module _ (read : ℕ → Outcome ℕ) (test : ℕ → Bool) (at end size : ℕ) (to : at + size ≤ end) (l : List ℕ) where
   module _ (values : List ℕ) (run : readRun read at size ≡ value values) where
     split : foundAre read test at (end - at) l
-        ≡ areRows l (allRead read (at + size) (end - (at + size)) >> value (rowsIn test at values ++ rowsPassing read test (at + size) (end - (at + size))))
+        ≡ areRows l (allRead read (at + size) (end - (at + size)) >> value (rowsAmong test at values ++ rowsPassing read test (at + size) (end - (at + size))))
     unfolding foundAre
     split = rw (all-behind read at end size values to run, rows-behind read test at end size values to run) refl
 
-    pub chunk-met : (m : List ℕ) → ((rest : List ℕ) → sameRows (rowsIn test at values ++ rest) l ≡ sameRows rest m) → foundAre read test at (end - at) l ≡ foundAre read test (at + size) (end - (at + size)) m
+    pub chunk-met : (m : List ℕ) → ((rest : List ℕ) → sameRows (rowsAmong test at values ++ rest) l ≡ sameRows rest m) → foundAre read test at (end - at) l ≡ foundAre read test (at + size) (end - (at + size)) m
     unfolding foundAre
-    chunk-met m same = split ∙ put-before (allRead read (at + size) (end - (at + size))) (rowsIn test at values) _ l m (same _)
+    chunk-met m same = split ∙ put-before (allRead read (at + size) (end - (at + size))) (rowsAmong test at values) _ l m (same _)
 
-    pub chunk-differs : ((rest : List ℕ) → sameRows (rowsIn test at values ++ rest) l ≡ false) → foundAre read test at (end - at) l ≡ false
-    chunk-differs other = split ∙ differ-before (allRead read (at + size) (end - (at + size))) (rowsIn test at values) _ l (other _)
+    pub chunk-differs : ((rest : List ℕ) → sameRows (rowsAmong test at values ++ rest) l ≡ false) → foundAre read test at (end - at) l ≡ false
+    chunk-differs other = split ∙ differ-before (allRead read (at + size) (end - (at + size))) (rowsAmong test at values) _ l (other _)
 
   pub chunk-refused : (number : ℕ) (also : List ℕ) → readRun read at size ≡ refusal number also → foundAre read test at (end - at) l ≡ false
   unfolding foundAre
@@ -221,10 +221,10 @@ module _ {read : ℕ → Outcome ℕ} {rows : ℕ} {s : List ℕ} {w : Walk} (f 
 
   module _ (values : List ℕ) (run : readRun read (w .at) size ≡ value values) where
     -- so does a row that is not the next recorded one
-    pub strays : ((rest : List ℕ) → sameRows (rowsIn sought (w .at) values ++ rest) awaited ≡ false) → replayedMeaning (Differ (w .k) (w .k + 1)) ≡ replayed read rows s
+    pub strays : ((rest : List ℕ) → sameRows (rowsAmong sought (w .at) values ++ rest) awaited ≡ false) → replayedMeaning (Differ (w .k) (w .k + 1)) ≡ replayed read rows s
     strays other = differ-at read rows s (w .head) (f .onward) (f .going .listed) (f .here ∙ chunk-differs read sought (w .at) (w .end) size to awaited values run other)
 
-    module _ (n : ℕ) (same : (rest : List ℕ) → sameRows (rowsIn sought (w .at) values ++ rest) awaited ≡ sameRows rest (toCome (w .head) s (w .item) n)) where
+    module _ (n : ℕ) (same : (rest : List ℕ) → sameRows (rowsAmong sought (w .at) values ++ rest) awaited ≡ sameRows rest (toCome (w .head) s (w .item) n)) where
       later : agrees read rows (w .head) s (w .k) ≡ foundAre read sought (w .at + size) (w .end - (w .at + size)) (toCome (w .head) s (w .item) n)
       later = f .here ∙ chunk-met read sought (w .at) (w .end) size to awaited values run (toCome (w .head) s (w .item) n) same
 

@@ -8,16 +8,17 @@ ghost use Rattle.format.specs.Outcome.{Outcome, Outcome.value, pick};
 ghost use Rattle.format.specs.Lookup.{within};
 ghost use Rattle.format.specs.Reading.{columnRow, blockAt, rowAt};
 ghost use Rattle.format.specs.Replaying.{sameRows};
+ghost use Rattle.format.specs.declared.Replayed.the-variants.{Differ};
 ghost use Rattle.format.specs.Runs.{readRun};
-ghost use Rattle.reading.specs.Chunks.{chunkSize};
-ghost use Rattle.chunks.specs.Walks.{rowsIn};
+ghost use Rattle.reading.specs.Chunks.{DecodedAs, chunkSize};
+ghost use Rattle.chunks.specs.Rows.{rowsAmong};
 ghost use Rattle.replaying.specs.Walking.{toCome, Onward, Going, OnHand, Replaying, left};
 use crate::parsing::header_of;
 use crate::parsing::is_recording;
 use crate::parsing::listed_at;
 use crate::parsing::record_at;
-use chunks::finding::cut;
-use chunks::finding::within;
+use chunks::cut;
+use chunks::within;
 use format::Block;
 use format::Column;
 use format::Recorded;
@@ -101,7 +102,7 @@ fn met_all(
     before: u32,
 ) -> Met
     requires { ⌜ (row + length (now values) ≤ 2 ^ 32) × (before ≤ item .many) ⌝ }
-    ensures { λ m. ⌜ ((rest : List ℕ) → sameRows (rowsIn (within (item .low) (item .high)) row (now (values .entry)) ++ rest) (toCome head (now (recording .entry)) item before) ≡ pick (m .same) (sameRows rest (toCome head (now (recording .entry)) item (m .n))) false) ⌝ }
+    ensures { λ m. ⌜ ((rest : List ℕ) → sameRows (rowsAmong (within (item .low) (item .high)) row (now (values .entry)) ++ rest) (toCome head (now (recording .entry)) item before) ≡ pick (m .same) (sameRows rest (toCome head (now (recording .entry)) item (m .n))) false) ⌝ }
     ensures { λ m. ⌜ m .n ≤ item .many ⌝ }
 {
     let mut n = before;
@@ -131,6 +132,17 @@ fn over(answer: Replayed) -> Walk
         going: false,
         answer,
     }
+}
+
+// Internal: asks for a record at hand. The end of a replay at that record, which differs.
+fn differs(w: Walk) -> Walk
+    requires { ⌜ w .k < w .head .records ⌝ }
+    ensures { λ r. ⌜ (r .going ≡ false) × (r .answer ≡ Differ (w .k) (w .k + 1)) ⌝ }
+{
+    over(Replayed::Differ {
+        index: w.k,
+        run: w.k + 1,
+    })
 }
 
 // Internal: asks for a record, or for the end of the records. Goes on with the records from k on: the first that has rows to read is at hand. One that has none agrees
@@ -180,7 +192,7 @@ pub fn begin(rows: u32, recording: &[u8]) -> Walk
 // Internal: asks for a record at hand, and a chunk of its rows. Behind a chunk whose rows were met, n recorded ones with those before: goes on with the record's rows behind it, or with the next record.
 fn behind(rows: u32, recording: &[u8], w: Walk, size: usize, n: u32) -> Walk
     requires { ⌜ (w .going ≡ true) × (0 < size) × (w .at + size ≤ w .end) × (w .k < w .head .records) × (n ≤ w .item .many) ⌝ }
-    ensures { λ r. ⌜ ((read : ℕ → Outcome ℕ) (values : List ℕ) → OnHand read rows (now (recording .entry)) w → readRun read (w .at) size ≡ value values → ((rest : List ℕ) → sameRows (rowsIn (within (w .item .low) (w .item .high)) (w .at) values ++ rest) (toCome (w .head) (now (recording .entry)) (w .item) (w .n)) ≡ sameRows rest (toCome (w .head) (now (recording .entry)) (w .item) n)) → Replaying read rows (now (recording .entry)) r) ⌝ }
+    ensures { λ r. ⌜ ((read : ℕ → Outcome ℕ) (values : List ℕ) → OnHand read rows (now (recording .entry)) w → readRun read (w .at) size ≡ value values → ((rest : List ℕ) → sameRows (rowsAmong (within (w .item .low) (w .item .high)) (w .at) values ++ rest) (toCome (w .head) (now (recording .entry)) (w .item) (w .n)) ≡ sameRows rest (toCome (w .head) (now (recording .entry)) (w .item) n)) → Replaying read rows (now (recording .entry)) r) ⌝ }
     ensures { λ r. ⌜ left r < left w ⌝ }
 {
     let at = w.at + size as u32;
@@ -199,12 +211,24 @@ fn behind(rows: u32, recording: &[u8], w: Walk, size: usize, n: u32) -> Walk
         };
     }
     if n < item.many {
-        return over(Replayed::Differ {
-            index: w.k,
-            run: w.k + 1,
-        });
+        return differs(w);
     }
     go_on(rows, recording, head, w.k + 1)
+}
+
+// Internal: asks for a record at hand, and a chunk of its rows. Behind a chunk that was decoded, and whose rows were met or not: a refused row, or one that was not recorded, ends the replay.
+fn turned(rows: u32, recording: &[u8], w: Walk, decoded: Decoded, size: usize, met: Met) -> Walk
+    requires { ⌜ (w .going ≡ true) × (0 < size) × (w .at + size ≤ w .end) × (w .k < w .head .records) × (met .n ≤ w .item .many) ⌝ }
+    ensures { λ r. ⌜ ((read : ℕ → Outcome ℕ) (values : List ℕ) → OnHand read rows (now (recording .entry)) w → DecodedAs (readRun read (w .at) size) decoded values → ((rest : List ℕ) → sameRows (rowsAmong (within (w .item .low) (w .item .high)) (w .at) values ++ rest) (toCome (w .head) (now (recording .entry)) (w .item) (w .n)) ≡ pick (met .same) (sameRows rest (toCome (w .head) (now (recording .entry)) (w .item) (met .n))) false) → Replaying read rows (now (recording .entry)) r) ⌝ }
+    ensures { λ r. ⌜ left r < left w ⌝ }
+{
+    if let Decoded::Refused(_) = decoded {
+        return differs(w);
+    }
+    if !met.same {
+        return differs(w);
+    }
+    behind(rows, recording, w, size, met.n)
 }
 
 // Internal: asks for a record at hand, and a list of its chunk's size. One turn through it.
@@ -221,21 +245,10 @@ fn step_through(
     ensures { λ r. ⌜ ((table : List Block) → blocks ≡ length table → block ≡ blockAt table (columnRow column (w .at) % 2 ^ 32 / 512) → Replaying (rowAt column table (now (bytes .entry))) (column .window .rows) (now (recording .entry)) w → Replaying (rowAt column table (now (bytes .entry))) (column .window .rows) (now (recording .entry)) r) ⌝ }
     ensures { λ r. ⌜ left r < left w ⌝ }
 {
+    let size = values.len();
     let decoded = reading::reader::decode(column, blocks, block, bytes, WindowRow(w.at), values);
-    if let Decoded::Refused(_) = decoded {
-        return over(Replayed::Differ {
-            index: w.k,
-            run: w.k + 1,
-        });
-    }
     let met = met_all(recording, w.head, w.item, w.at, values, w.n);
-    if !met.same {
-        return over(Replayed::Differ {
-            index: w.k,
-            run: w.k + 1,
-        });
-    }
-    behind(column.window.rows, recording, w, values.len(), met.n)
+    turned(column.window.rows, recording, w, decoded, size, met)
 }
 
 // Internal: asks for a replay that is going on over rows of the window. One turn: the chunk at hand, with its block out of a table of so many.
@@ -253,7 +266,7 @@ pub fn step(
 {
     let mut buffer = [0u64; 512];
     let at = reading::reader::column_row(column.window.first, WindowRow(w.at));
-    let size = chunks::walks::chunk_size(at, w.end - w.at);
+    let size = chunks::chunk_size(at, w.end - w.at);
     step_through(
         column,
         blocks,

@@ -97,7 +97,7 @@ pub(crate) fn values(column: Column, block: Block, bytes: &[u8], row: u32, out: 
     requires { ⌜ length (now out) ≡ 512 ⌝ }
     ensures { λ n. ⌜ Values (ownRow column (now (bytes .entry))) row n (now (out .exit)) ⌝ }
 {
-    let size = chunks::walks::chunk_size(ColumnRow(row), column.rows - row);
+    let size = chunks::chunk_size(ColumnRow(row), column.rows - row);
     let n = reading::reader::decode_fitting(column, block, bytes, ColumnRow(row), &mut out[..size]);
     if n < size {
         return 0;

@@ -18,6 +18,7 @@ use Rattle.format.specs.Reading.{rowAt}
 use Rattle.format.specs.Refusals.{replayedMeaning}
 use Rattle.format.specs.Replaying.{Report, replayed}
 use Rattle.records.proofs.Types as Ty
+use Rattle.recorded_lookups.proofs.Types as Own
 use Rattle.plain.specs.declared.Made.{Made}
 use Rattle.plain.specs.Numbers.{after, columnFrom, madeMeaning, columnOf}
 use Rattle.telling.specs.Replaying.{Reports}
@@ -32,10 +33,10 @@ use Rattle.plain.proofs.column_of as co
 use Rattle.plain.proofs.column_of.Symbol as co-def
 use Rattle.plain.proofs.column_of.Symbol.{name as #plain·column-of}
 use Rattle.plain.proofs.column_of.Met as co-thm
-use Rattle.records.proofs.replay as rp
-use Rattle.records.proofs.replay.Symbol as rp-def
-use Rattle.records.proofs.replay.Symbol.{name as #records·replay}
-use Rattle.records.proofs.replay.Met as rp-thm
+use Rattle.recorded_lookups.proofs.replay as rp
+use Rattle.recorded_lookups.proofs.replay.Symbol as rp-def
+use Rattle.recorded_lookups.proofs.replay.Symbol.{name as #recorded-lookups·replay}
+use Rattle.recorded_lookups.proofs.replay.Met as rp-thm
 use Rattle.telling.proofs.replays.report_told as rt
 use Rattle.telling.proofs.replays.report_told.Symbol as rt-def
 use Rattle.telling.proofs.replays.report_told.Symbol.{name as #telling·replays·report-told}
@@ -115,12 +116,12 @@ module _ {M : Type 1} (𝓤 : URA M) (H : Heap 𝓤) (A : Atoms 𝓤) (W : Given
 
   -- what `report_told` is called with, and what it says
   abbrev to-rt : Made → Replayed → Told 𝓤 H A mem run .Ghost
-  to-rt made answer = (((κ₄, (κ₅, tt)), (q₄, (q₅, tt)), tt, (made, (answer, (report, (refusal, tt)))), (vals T′.made made, (vals Ty.replayed answer, (report-at ∷ [], (refusal-at ∷ [], tt))))), tt)
+  to-rt made answer = (((κ₄, (κ₅, tt)), (q₄, (q₅, tt)), tt, (made, (answer, (report, (refusal, tt)))), (vals T′.made made, (vals Own.replayed answer, (report-at ∷ [], (refusal-at ∷ [], tt))))), tt)
 
   abbrev Says-rt : Made → Replayed → List ℕ → List ℕ → Type 0
   Says-rt made answer report′ refusal′ = Reports (after (madeMeaning made) (replayedMeaning answer)) refusal′ (report .now) report′
 
-  module _ (C : Calls 𝓤 H) (Λ : Loops 𝓤 H) (fm : FmC 𝓤 H (W .laws) C) (known-cf : Triple 𝓤 (C #plain·column-from) (From 𝓤 H A mem run)) (known-co : Triple 𝓤 (C #plain·column-of) (Of 𝓤 H A mem run)) (known-rp : Triple 𝓤 (C #records·replay) (Ran 𝓤 H A mem run)) (known-rt : Triple 𝓤 (C #telling·replays·report-told) (Told 𝓤 H A mem run)) where
+  module _ (C : Calls 𝓤 H) (Λ : Loops 𝓤 H) (fm : FmC 𝓤 H (W .laws) C) (known-cf : Triple 𝓤 (C #plain·column-from) (From 𝓤 H A mem run)) (known-co : Triple 𝓤 (C #plain·column-of) (Of 𝓤 H A mem run)) (known-rp : Triple 𝓤 (C #recorded-lookups·replay) (Ran 𝓤 H A mem run)) (known-rt : Triple 𝓤 (C #telling·replays·report-told) (Told 𝓤 H A mem run)) where
     walk : length (table .now) < 2 ^ 64 → length (bytes .now) < 2 ^ 64 → length (recording .now) < 2 ^ 64
         → ent 𝓤 (onEntry 𝓤 H A f.signature κs (q₀, (q₁, (q₂, (q₃, (q₄, (q₅, tt)))))) x at) (WpFn 𝓤 H C Λ code.function (column-at ∷ table-at ∷ bytes-at ∷ recording-at ∷ report-at ∷ refusal-at ∷ []) Post)
     walk table-fits bytes-fits recording-fits =
@@ -140,12 +141,12 @@ module _ {M : Type 1} (𝓤 : URA M) (H : Heap 𝓤) (A : Atoms 𝓤) (W : Given
         (and-then ! (load ! (from ! (stop !)) (look ! 19 refl)) (no-more !)) (λ c c-is c-fits. drop ! $ land ! (from ! (stop !)) (init ! 16 refl (typed W Ty.column c _ c-fits .0)) $
         -- the replay
         nothing ! $ move ! (6 ∷ 0 ∷ []) $ fjoin ! $ move ! (6 ∷ 0 ∷ []) $ fjoin ! $ move ! (6 ∷ 0 ∷ []) $ fjoin ! $ have ! Ty.column c c-fits $ fjoin ! $ move ! (2 ∷ 0 ∷ []) $ use1 W (raw (alive 𝓤 H A rp.signature (κ₁, (κ₂, (κ₃, tt))) (q₁, (q₂, (q₃, tt))))) (id⊢ 𝓤 _) $
-        calls-plain ! fm rp.ended (rp.clauses 𝓤 H A mem run) known-rp ((κ₁, (κ₂, (κ₃, tt))), (q₁, (q₂, (q₃, tt))), tt, (c, (table, (bytes, (recording, tt)))), (vals Ty.column c, (table-at ∷ [], (bytes-at ∷ [], (recording-at ∷ [], tt))))) tt (id⊢ 𝓤 _) (λ answer. replayedMeaning answer ≡ replayed (rowAt c (table .now) (bytes .now)) (c .window .rows) (recording .now)) (λ answer answer-is. id⊢ 𝓤 _) (Ty.replayed .val) (Ty.replayed .tells)
-        (and-then ! (load ! (from ! (stop !)) (look ! 13 refl)) (and-then ! (load ! (from ! (stop !)) (look ! 25 refl)) (and-then ! (load ! (from ! (stop !)) (look ! 23 refl)) (and-then ! (load ! (from ! (stop !)) (look ! 21 refl)) (no-more !))))) (λ answer answer-is answer-fits. use1 W (‵ (flft κ₁ q₁) ⊛ (‵ (flft κ₂ q₂) ⊛ (‵ (flft κ₃ q₃) ⊛ ‵ ftrue))) (id⊢ 𝓤 _) $ land ! (from ! (stop !)) (init ! 11 refl (typed W Ty.replayed answer _ answer-fits .0)) $
+        calls-plain ! fm rp.ended (rp.clauses 𝓤 H A mem run) known-rp ((κ₁, (κ₂, (κ₃, tt))), (q₁, (q₂, (q₃, tt))), tt, (c, (table, (bytes, (recording, tt)))), (vals Ty.column c, (table-at ∷ [], (bytes-at ∷ [], (recording-at ∷ [], tt))))) tt (id⊢ 𝓤 _) (λ answer. replayedMeaning answer ≡ replayed (rowAt c (table .now) (bytes .now)) (c .window .rows) (recording .now)) (λ answer answer-is. id⊢ 𝓤 _) (Own.replayed .val) (Own.replayed .tells)
+        (and-then ! (load ! (from ! (stop !)) (look ! 13 refl)) (and-then ! (load ! (from ! (stop !)) (look ! 25 refl)) (and-then ! (load ! (from ! (stop !)) (look ! 23 refl)) (and-then ! (load ! (from ! (stop !)) (look ! 21 refl)) (no-more !))))) (λ answer answer-is answer-fits. use1 W (‵ (flft κ₁ q₁) ⊛ (‵ (flft κ₂ q₂) ⊛ (‵ (flft κ₃ q₃) ⊛ ‵ ftrue))) (id⊢ 𝓤 _) $ land ! (from ! (stop !)) (init ! 11 refl (typed W Own.replayed answer _ answer-fits .0)) $
         assigns ! (addr ! (from ! (hop ! (look ! 19 refl) (stop !)))) (from ! (stop !)) (init ! 7 refl (tt, tt)) $
         assigns ! (addr ! (from ! (hop ! (look ! 17 refl) (stop !)))) (from ! (stop !)) (init ! 5 refl (tt, tt)) $
         -- the answer is told
-        nothing ! $ move ! (4 ∷ 0 ∷ []) $ fjoin ! $ move ! (4 ∷ 0 ∷ []) $ fjoin ! $ have ! Ty.replayed answer answer-fits $ fjoin ! $ have ! T′.made made made-fits $ fjoin ! $ move ! (3 ∷ 0 ∷ []) $ join ! $ nothing ! $ move ! (1 ∷ 0 ∷ []) $ join ! $ use1 W (raw (Told 𝓤 H A mem run .pre (to-rt made answer))) (id⊢ 𝓤 _) $
+        nothing ! $ move ! (4 ∷ 0 ∷ []) $ fjoin ! $ move ! (4 ∷ 0 ∷ []) $ fjoin ! $ have ! Own.replayed answer answer-fits $ fjoin ! $ have ! T′.made made made-fits $ fjoin ! $ move ! (3 ∷ 0 ∷ []) $ join ! $ nothing ! $ move ! (1 ∷ 0 ∷ []) $ join ! $ use1 W (raw (Told 𝓤 H A mem run .pre (to-rt made answer))) (id⊢ 𝓤 _) $
         calls-at ! fm (Told 𝓤 H A mem run) known-rt (to-rt made answer) (and-then ! (load ! (from ! (stop !)) (look ! 13 refl)) (and-then ! (load ! (from ! (stop !)) (look ! 9 refl)) (and-then ! (load ! (from ! (stop !)) (look ! 5 refl)) (and-then ! (load ! (from ! (stop !)) (look ! 3 refl)) (no-more !))))) (λ urt.
         use1 W (later (some (λ (u : Unit {0}). ((‵ (flft κ₄ q₄) ⊛ (‵ (flft κ₅ q₅) ⊛ ‵ ftrue)) ⊛ ‵ (unit .own u (urt ∷ []))) ⊛ raw (ensured 𝓤 H A rt.ended (rt.clauses 𝓤 H A mem run) (κ₄, (κ₅, tt)) (made, (answer, (report, (refusal, tt)))) tt u)))) (id⊢ 𝓤 _) $ await ! tt $ pick ! (λ u.
         split ! $ move ! (1 ∷ []) $ use1 W (some (λ (zrt : Unit {0} × (Unit {0} × (List ℕ × (List ℕ × Unit {0})))). ‵ (lasts rt.ended (κ₄, (κ₅, tt)) (made, (answer, (report, (refusal, tt)))) zrt) ⊛ raw (fact 𝓤 (Says-rt made answer (zrt .1 .1 .0) (zrt .1 .1 .1 .0))))) (id⊢ 𝓤 _) $ pick ! (λ zrt.
@@ -156,7 +157,7 @@ module _ {M : Type 1} (𝓤 : URA M) (H : Heap 𝓤) (A : Atoms 𝓤) (W : Given
         by ! (exits (zrt .1 .1 .0) (zrt .1 .1 .1 .0) (subst (λ (o : Outcome Report). Reports o (zrt .1 .1 .1 .0) (report .now) (zrt .1 .1 .0)) (joined (λ (col : Column). replayed (rowAt col (table .now) (bytes .now)) (col .window .rows) (recording .now)) (column .now) made made-is c-is answer-is) u-is)))))))))))))))))))))))
 
 module _ {M : Type 1} (𝓤 : URA M) (H : Heap 𝓤) (A : Atoms 𝓤) (W : Given 𝓤 H A) (mem : Memory → SProp 𝓤) (run : Routine → Fun 𝓤) where
-  walks : (𝓣 : Tables 𝓤 H) → Triple 𝓤 (𝓣 .C #plain·column-from) (From 𝓤 H A mem run) → Triple 𝓤 (𝓣 .C #plain·column-of) (Of 𝓤 H A mem run) → Triple 𝓤 (𝓣 .C #records·replay) (Ran 𝓤 H A mem run) → Triple 𝓤 (𝓣 .C #telling·replays·report-told) (Told 𝓤 H A mem run)
+  walks : (𝓣 : Tables 𝓤 H) → Triple 𝓤 (𝓣 .C #plain·column-from) (From 𝓤 H A mem run) → Triple 𝓤 (𝓣 .C #plain·column-of) (Of 𝓤 H A mem run) → Triple 𝓤 (𝓣 .C #recorded-lookups·replay) (Ran 𝓤 H A mem run) → Triple 𝓤 (𝓣 .C #telling·replays·report-told) (Told 𝓤 H A mem run)
       → Walks 𝓤 H A f.ended stayed (WpFn 𝓤 H (𝓣 .C) (𝓣 .Λ) code.function) (f.clauses 𝓤 H A mem run)
   walks 𝓣 k₁ k₂ k₃ k₄ =
       walked 𝓤 H A f.ended stayed (f.clauses 𝓤 H A mem run) (WpFn 𝓤 H (𝓣 .C) (𝓣 .Λ) code.function) (λ κs. (ptr-vals, (slice-vals, (slice-vals, (slice-vals, (ptr-vals, (ptr-vals, tt)))))))
@@ -174,5 +175,5 @@ hulemartob-replay-spec 𝓤 H 𝓜 𝓖 𝓡 =
     (f.clauses 𝓤 H (𝓖 .A) (𝓜 .mem) (𝓡 .run)) (WpFn 𝓤 H (𝓣 .C) (𝓣 .Λ) code.function) (WpFn-mono 𝓤 H (W .laws) 𝓣 code.function) (walks 𝓤 H (𝓖 .A) W (𝓜 .mem) (𝓡 .run) 𝓣
     (cited 𝓤 H (From 𝓤 H (𝓖 .A) (𝓜 .mem) (𝓡 .run)) 𝓜 𝓡 code.env #plain·column-from cf-def.routine code.calls-plain·column-from (cf-thm.met 𝓤 H 𝓜 𝓖 𝓡))
     (cited 𝓤 H (Of 𝓤 H (𝓖 .A) (𝓜 .mem) (𝓡 .run)) 𝓜 𝓡 code.env #plain·column-of co-def.routine code.calls-plain·column-of (co-thm.met 𝓤 H 𝓜 𝓖 𝓡))
-    (cited 𝓤 H (Ran 𝓤 H (𝓖 .A) (𝓜 .mem) (𝓡 .run)) 𝓜 𝓡 code.env #records·replay rp-def.routine code.calls-records·replay (rp-thm.met 𝓤 H 𝓜 𝓖 𝓡))
+    (cited 𝓤 H (Ran 𝓤 H (𝓖 .A) (𝓜 .mem) (𝓡 .run)) 𝓜 𝓡 code.env #recorded-lookups·replay rp-def.routine code.calls-recorded-lookups·replay (rp-thm.met 𝓤 H 𝓜 𝓖 𝓡))
     (cited 𝓤 H (Told 𝓤 H (𝓖 .A) (𝓜 .mem) (𝓡 .run)) 𝓜 𝓡 code.env #telling·replays·report-told rt-def.routine code.calls-telling·replays·report-told (rt-thm.met 𝓤 H 𝓜 𝓖 𝓡))))

@@ -15,15 +15,12 @@ returns : tie.Need-returns
 returns c = let s = c .before .before .before .before .before .before in
     ((λ read values f run same. goes-later f (s .args .size) (s .pre .2) values run _ same (c .if1 .taken) (s .pre .4)), left-later (s .args .w) (s .pre .0) (s .pre .3) (s .args .size) (s .pre .1) (s .pre .2))
 
-add-t12 : tie.Need-add-t12
-add-t12 c = search needs
-
-over-requires : tie.Need-over-requires
-over-requires c κs = search needs
+differs-requires : tie.Need-differs-requires
+differs-requires c κs = search needs
 
 returns-2 : tie.Need-returns-2
-returns-2 c = let s = c .before .before .before .before .before .before .before .before .before .before in
-    ((λ read values f run same. ended read _ _ (c .over .result) (c .over .ensures .0) (c .over .ensures .1) (stops-short f (s .args .size) (s .pre .2) values run _ same (c .before .before .before .before .if1 .left) (c .before .before .if2 .taken))), left-over (c .over .result) (c .over .ensures .0) _ (left-some (s .args .w) (s .pre .0) (s .pre .3)))
+returns-2 c = let s = c .before .before .before .before .before .before .before .before .before in
+    ((λ read values f run same. ended read _ _ (c .differs .result) (c .differs .ensures .0) (c .differs .ensures .1) (stops-short f (s .args .size) (s .pre .2) values run _ same (c .before .before .before .if1 .left) (c .before .if2 .taken))), left-over (c .differs .result) (c .differs .ensures .0) _ (left-some (s .args .w) (s .pre .0) (s .pre .3)))
 
 add-go-on : tie.Need-add-go-on
 add-go-on c = search needs
@@ -42,8 +39,7 @@ behind-spec =
     cast-at
     add-at
     returns
-    add-t12
-    over-requires
+    differs-requires
     returns-2
     add-go-on
     go-on-requires

@@ -1,0 +1,4 @@
+-- Laws of a lookup; the head of each file lists what it offers.
+
+pub mod Beginnings
+pub mod Scans

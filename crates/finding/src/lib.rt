@@ -1,0 +1,196 @@
+// Looking rows up: a walk whose first pass counts the rows in the range, and whose second stores them.
+ghost use mathlib.Core.Path.{_≡_};
+ghost use mathlib.Core.Bool.{Bool};
+ghost use mathlib.Core.List.{List};
+ghost use Prim.Native.Nat.{ℕ, _+_, _/_, _%_, _^_, _≤_, _<_, min};
+ghost use lib.ListN.{length, set};
+ghost use lib.Seq.{sets};
+ghost use Rattle.format.specs.Outcome.{Outcome, pick};
+ghost use Rattle.format.specs.Lookup.{lookedUp, within};
+ghost use Rattle.format.specs.Reading.{blockAt, rowAt};
+ghost use Rattle.format.specs.Calls.{FoundAs};
+ghost use Rattle.chunks.specs.Rows.{rowsAmong};
+ghost use Rattle.walks.specs.Walks.{Kept.rowsOf, WalkedAs, nextChunk, Going, left, Walking};
+use chunks::cut;
+use chunks::within;
+use format::Block;
+use format::Column;
+use format::Found;
+use format::Window;
+use format::WindowRow;
+use walks::Walk;
+use walks::Walked;
+
+// One more than `n` if a value lies in the range.
+fn tallied(n: usize, low: u64, high: u64, value: u64) -> usize
+    requires { ⌜ n + 1 < 2 ^ 64 ⌝ }
+    ensures { λ r. ⌜ r ≡ pick (within low high value) (n + 1) n ⌝ }
+{
+    if within(low, high, value) {
+        return n + 1;
+    }
+    n
+}
+
+// How many of some values lie in the range.
+fn count_within(values: &[u64], low: u64, high: u64) -> usize
+    ensures { λ n. ⌜ ((r : ℕ) → n ≡ length (rowsAmong (within low high) r (now (values .entry)))) ⌝ }
+    ensures { λ n. ⌜ n ≤ length (now (values .entry)) ⌝ }
+{
+    let mut n = 0;
+    let mut i = 0;
+    while i < values.len() {
+        n = tallied(n, low, high, values[i]);
+        i += 1;
+    }
+    n
+}
+
+// Stores a row at an entry of a list, if the list has it.
+fn put(list: &mut [u32], at: usize, row: u32)
+    ensures { λ _. ⌜ now (list .exit) ≡ set (now (list .entry)) at row ⌝ }
+{
+    if at < list.len() {
+        list[at] = row;
+    }
+}
+
+// Stores a row whose value lies in the range at entry `n`, and returns the entry for the next.
+fn filed(value: u64, low: u64, high: u64, row: u32, found: &mut [u32], n: usize) -> usize
+    requires { ⌜ n + 1 < 2 ^ 64 ⌝ }
+    ensures { λ r. ⌜ r ≡ pick (within low high value) (n + 1) n ⌝ }
+    ensures { λ _. ⌜ now (found .exit) ≡ pick (within low high value) (set (now (found .entry)) n row) (now (found .entry)) ⌝ }
+{
+    if !within(low, high, value) {
+        return n;
+    }
+    put(found, n, row);
+    n + 1
+}
+
+// Internal: asks for rows below 2^32, and no more entries before `at` than rows before `row`. Stores the rows whose values lie in the range, the first value's row being `row`, from entry `at` on, and returns
+// the entry behind them.
+fn store_within(
+    values: &[u64],
+    low: u64,
+    high: u64,
+    row: u32,
+    found: &mut [u32],
+    at: usize,
+) -> usize
+    requires { ⌜ (row + length (now values) ≤ 2 ^ 32) × (at ≤ row) ⌝ }
+    ensures { λ n. ⌜ n ≡ at + length (rowsAmong (within low high) row (now (values .entry))) ⌝ }
+    ensures { λ _. ⌜ now (found .exit) ≡ sets (now (found .entry)) at (rowsAmong (within low high) row (now (values .entry))) ⌝ }
+    ensures { λ n. ⌜ n ≤ row + length (now (values .entry)) ⌝ }
+{
+    let mut n = at;
+    let mut i = 0;
+    while i < values.len() {
+        n = filed(values[i], low, high, row + i as u32, found, n);
+        i += 1;
+    }
+    n
+}
+
+// How a lookup of the rows from `first` to `end`, cut to a window's rows, begins; where there are none, it is over.
+pub fn begin(window: Window, first: u32, end: u32) -> Walk
+    ensures { λ w. ⌜ ((read : ℕ → Outcome ℕ) (test : ℕ → Bool) (list : List ℕ) → Walking (rowsOf test) read window (lookedUp read (window .rows) test first end (length list)) list w list) ⌝ }
+{
+    let last = cut(end, window.rows);
+    Walk {
+        base: window.first,
+        first,
+        end: last,
+        at: first,
+        n: 0,
+        storing: false,
+        going: first < last,
+        answer: Walked::Entries(0),
+    }
+}
+
+// Internal: asks for rows below 2^32, and no more entries before `at` than rows before `row`. How many of the rows lie in the range, the first value's row being `row`; in a pass that
+// stores they are stored from entry `at` on.
+fn keep(
+    storing: bool,
+    values: &[u64],
+    low: u64,
+    high: u64,
+    row: u32,
+    found: &mut [u32],
+    at: usize,
+) -> usize
+    requires { ⌜ (row + length (now values) ≤ 2 ^ 32) × (at ≤ row) ⌝ }
+    ensures { λ n. ⌜ n ≡ length (rowsAmong (within low high) row (now (values .entry))) ⌝ }
+    ensures { λ _. ⌜ now (found .exit) ≡ pick storing (sets (now (found .entry)) at (rowsAmong (within low high) row (now (values .entry)))) (now (found .entry)) ⌝ }
+{
+    if !storing {
+        return count_within(values, low, high);
+    }
+    store_within(values, low, high, row, found, at) - at
+}
+
+// One turn through a buffer of the chunk's size.
+fn step_through(
+    column: Column,
+    blocks: usize,
+    block: Block,
+    bytes: &[u8],
+    low: u64,
+    high: u64,
+    w: Walk,
+    values: &mut [u64],
+    found: &mut [u32],
+) -> Walk
+    requires { ⌜ Going w × (w .base ≡ column .window .first) × (w .end ≤ column .window .rows) × (length (now values) ≡ nextChunk w) ⌝ }
+    ensures { λ r. ⌜ ((table : List Block) (before : List ℕ) (o : Outcome (List ℕ)) → blocks ≡ length table → block ≡ blockAt table ((w .base + w .at) % 2 ^ 32 / 512) → Walking (rowsOf (within low high)) (rowAt column table (now (bytes .entry))) (column .window) o before w (now (found .entry)) → Walking (rowsOf (within low high)) (rowAt column table (now (bytes .entry))) (column .window) o before r (now (found .exit))) ⌝ }
+    ensures { λ r. ⌜ left r < left w ⌝ }
+{
+    let size = values.len();
+    let decoded = reading::reader::decode(column, blocks, block, bytes, WindowRow(w.at), values);
+    let room = found.len();
+    let storing = walks::stores(w, decoded);
+    let n = keep(storing, values, low, high, w.at, found, w.n);
+    walks::behind(w, decoded, size, n, room)
+}
+
+// Internal: asks for a lookup that is going on over rows of the window. One turn: the chunk at hand, with its block out of a table of so many.
+pub fn step(
+    column: Column,
+    blocks: usize,
+    block: Block,
+    bytes: &[u8],
+    low: u64,
+    high: u64,
+    w: Walk,
+    found: &mut [u32],
+) -> Walk
+    requires { ⌜ Going w × (w .base ≡ column .window .first) × (w .end ≤ column .window .rows) ⌝ }
+    ensures { λ r. ⌜ ((table : List Block) (before : List ℕ) (o : Outcome (List ℕ)) → blocks ≡ length table → block ≡ blockAt table ((w .base + w .at) % 2 ^ 32 / 512) → Walking (rowsOf (within low high)) (rowAt column table (now (bytes .entry))) (column .window) o before w (now (found .entry)) → Walking (rowsOf (within low high)) (rowAt column table (now (bytes .entry))) (column .window) o before r (now (found .exit))) ⌝ }
+    ensures { λ r. ⌜ left r < left w ⌝ }
+{
+    let mut buffer = [0u64; 512];
+    let size = walks::chunk_of(w);
+    step_through(
+        column,
+        blocks,
+        block,
+        bytes,
+        low,
+        high,
+        w,
+        &mut buffer[..size],
+        found,
+    )
+}
+
+// What a lookup that is over found.
+pub fn answer(w: Walk) -> Found
+    ensures { λ r. ⌜ ((o : Outcome (List ℕ)) (before list : List ℕ) → WalkedAs o (w .answer) before list → FoundAs o r before list) ⌝ }
+{
+    let answer = w.answer;
+    match answer {
+        Walked::Entries(n) => Found::Rows(n),
+        Walked::Refused(why) => Found::Refused(why),
+    }
+}

@@ -1,0 +1,3 @@
+-- Laws of a run of rows.
+
+pub mod Beginnings

@@ -1,0 +1,125 @@
+// Decoding a run of rows: a walk that stores the value of every row.
+ghost use mathlib.Core.Path.{_≡_};
+ghost use mathlib.Core.Bool.{false};
+ghost use mathlib.Core.List.{List};
+ghost use Prim.Native.Nat.{ℕ, _+_, _-_, _/_, _%_, _^_, _≤_, _<_};
+ghost use lib.ListN.{length};
+ghost use lib.Seq.{sets};
+ghost use Rattle.format.specs.Outcome.{Outcome, pick};
+ghost use Rattle.format.specs.Reading.{blockAt, rowAt};
+ghost use Rattle.format.specs.Runs.{decoded};
+ghost use Rattle.format.specs.Calls.{RunAs};
+ghost use Rattle.walks.specs.Walks.{Kept.allValues, WalkedAs, nextChunk, Going, left, Walking};
+use format::Block;
+use format::Column;
+use format::Refusal;
+use format::RunRead;
+use format::Window;
+use format::WindowRow;
+use walks::Walk;
+use walks::Walked;
+
+// A run that is over before it begins.
+fn settled(first: u32, answer: Walked) -> Walk
+    ensures { λ r. ⌜ (r .going ≡ false) × (r .answer ≡ answer) ⌝ }
+{
+    Walk {
+        base: 0,
+        first,
+        end: first,
+        at: first,
+        n: 0,
+        storing: false,
+        going: false,
+        answer,
+    }
+}
+
+// How a run of `n` rows from `first` on in a window begins: where it leaves the rows, or has none, it is over.
+pub fn begin(window: Window, first: u32, n: usize) -> Walk
+    ensures { λ w. ⌜ ((read : ℕ → Outcome ℕ) (list : List ℕ) → length list ≡ n → Walking allValues read window (decoded read (window .rows) first n) list w list) ⌝ }
+{
+    if window.rows < first {
+        return settled(first, Walked::Refused(Refusal::NoSuchRow));
+    }
+    if ((window.rows - first) as usize) < n {
+        return settled(first, Walked::Refused(Refusal::NoSuchRow));
+    }
+    if n == 0 {
+        return settled(first, Walked::Entries(0));
+    }
+    let end = first + n as u32;
+    let at = reading::reader::column_row(window.first, WindowRow(first));
+    Walk {
+        base: window.first,
+        first,
+        end,
+        at: first,
+        n: 0,
+        storing: end - first <= 512 - at.0 % 512,
+        going: true,
+        answer: Walked::Entries(n),
+    }
+}
+
+// Internal: asks for room. Copies values into a list from an entry on, in a pass that stores.
+fn keep(storing: bool, values: &[u64], out: &mut [u64], at: usize)
+    requires { ⌜ at + length (now values) ≤ length (now out) ⌝ }
+    ensures { λ _. ⌜ now (out .exit) ≡ pick storing (sets (now (out .entry)) at (now (values .entry))) (now (out .entry)) ⌝ }
+{
+    if !storing {
+        return;
+    }
+    chunks::copy(values, out, at);
+}
+
+// One turn through a buffer of the chunk's size.
+fn step_through(
+    column: Column,
+    blocks: usize,
+    block: Block,
+    bytes: &[u8],
+    w: Walk,
+    values: &mut [u64],
+    out: &mut [u64],
+) -> Walk
+    requires { ⌜ Going w × (w .base ≡ column .window .first) × (w .end ≤ column .window .rows) × (length (now values) ≡ nextChunk w) × (length (now out) ≡ w .end - w .first) × (w .n ≡ w .at - w .first) ⌝ }
+    ensures { λ r. ⌜ ((table : List Block) (before : List ℕ) (o : Outcome (List ℕ)) → blocks ≡ length table → block ≡ blockAt table ((w .base + w .at) % 2 ^ 32 / 512) → Walking allValues (rowAt column table (now (bytes .entry))) (column .window) o before w (now (out .entry)) → Walking allValues (rowAt column table (now (bytes .entry))) (column .window) o before r (now (out .exit))) ⌝ }
+    ensures { λ r. ⌜ left r < left w ⌝ }
+{
+    let size = values.len();
+    let decoded = reading::reader::decode(column, blocks, block, bytes, WindowRow(w.at), values);
+    let room = out.len();
+    let storing = walks::stores(w, decoded);
+    keep(storing, values, out, w.n);
+    walks::behind(w, decoded, size, size, room)
+}
+
+// Internal: asks for a run that is going on over rows of the window, and a list of its length. One turn: the chunk at hand, with its block out of a table of so many.
+pub fn step(
+    column: Column,
+    blocks: usize,
+    block: Block,
+    bytes: &[u8],
+    w: Walk,
+    out: &mut [u64],
+) -> Walk
+    requires { ⌜ Going w × (w .base ≡ column .window .first) × (w .end ≤ column .window .rows) × (length (now out) ≡ w .end - w .first) × (w .n ≡ w .at - w .first) ⌝ }
+    ensures { λ r. ⌜ ((table : List Block) (before : List ℕ) (o : Outcome (List ℕ)) → blocks ≡ length table → block ≡ blockAt table ((w .base + w .at) % 2 ^ 32 / 512) → Walking allValues (rowAt column table (now (bytes .entry))) (column .window) o before w (now (out .entry)) → Walking allValues (rowAt column table (now (bytes .entry))) (column .window) o before r (now (out .exit))) ⌝ }
+    ensures { λ r. ⌜ left r < left w ⌝ }
+{
+    let mut buffer = [0u64; 512];
+    let size = walks::chunk_of(w);
+    step_through(column, blocks, block, bytes, w, &mut buffer[..size], out)
+}
+
+// What a run that is over found.
+pub fn answer(w: Walk) -> RunRead
+    ensures { λ r. ⌜ ((o : Outcome (List ℕ)) (before list : List ℕ) → WalkedAs o (w .answer) before list → RunAs o r before list) ⌝ }
+{
+    let answer = w.answer;
+    match answer {
+        Walked::Entries(n) => RunRead::Values(n),
+        Walked::Refused(why) => RunRead::Refused(why),
+    }
+}

@@ -1,0 +1,3 @@
+-- Laws of a walk; the head of each file lists what it offers.
+
+pub mod Walking
