@@ -21,7 +21,8 @@ use Rattle.format.specs.Stats.{stated}
 use Rattle.format.specs.Typed.{storedAs}
 use Rattle.format.specs.Windows.{narrowed}
 use Rattle.format.specs.Writing.{written}
-use Rattle.explaining.specs.Bytes.{partOf, rowsOf}
+use Rattle.explaining.specs.Bytes.{partOf}
+use Rattle.owning.specs.Bytes.{rowsOf}
 use Rattle.plain.specs.Checking.{verdictNumbers}
 use Rattle.plain.specs.Explaining.{partNumbers, rowsIn, Tells}
 use Rattle.plain.specs.Kinds.{kindFrom}
