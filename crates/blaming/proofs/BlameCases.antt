@@ -15,7 +15,8 @@ use Rattle.format.specs.Reading.{rowIn, placeIn, columnFits, rowFits, fits, pac
 use Rattle.format.specs.Parts.{blockNames, extent, spelled, partsFrom, partIn, runOwners, blockOwners, areaOwners, ownersAt}
 use Rattle.format.specs.Listing.{decimalIn, decimal, named, namedLine, rowTexts, openedHere}
 use Rattle.format.proofs.Cases.{p9, p10}
-use Rattle.explaining.specs.Bytes.{partOf, rowsOf}
+use Rattle.explaining.specs.Bytes.{partOf}
+use Rattle.owning.specs.Bytes.{rowsOf}
 use Rattle.explanation.proofs.ExplainCases.{text}
 use Rattle.bytewise.specs.Fields.{firstField}
 use Rattle.bytewise.specs.Tallies.{tallyFrom}

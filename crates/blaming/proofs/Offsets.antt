@@ -1,24 +1,23 @@
 -- The text of an offset, and how a blame begins, by the tests.
---     text-same, text-none, text-rows                                              bytes that are the same; a byte that names no row, and one that names some
+--     text-same, text-differs                                                      bytes that are the same; and that differ
 --     starts-left, starts-right, starts-lengths, starts-field, starts-both         a beginning
 -- Assumes nothing.
-use Prim.Native.Nat.{ℕ, _+_, _-_}
+use Prim.Native.Nat.{ℕ}
 use mathlib.Core.Path.{_≡_}
 use mathlib.Core.Bool.{true, false}
-use mathlib.Core.List.{List, [], _++_, append-nil}
+use mathlib.Core.List.{List, [], _++_}
 use lib.Dec.{eqb}
 use lib.ListN.{length, getD}
 use Rattle.format.specs.declared.Column.{Column}
-use Rattle.format.specs.declared.Owners.the-variants.{Rows, NoRow}
 use Rattle.format.specs.declared.PartName.{PartName}
-use Rattle.format.specs.Listing.{ascii, namedLine, rowTexts, openedHere}
+use Rattle.format.specs.Listing.{ascii, namedLine, openedHere}
 use Rattle.explaining.specs.Bytes.{partOf}
 use Rattle.text.specs.Own.{ownRow, Opens}
 use Rattle.bytewise.specs.declared.fields.Field.the-variants.{At, Nothing}
 use Rattle.blaming.specs.Beginning.{starts, Start.both, Start.only}
 use Rattle.bytewise.specs.Fields.{firstField}
 use Rattle.bytewise.specs.Owners.{ownersFound}
-use Rattle.blaming.specs.Bytes.{lengthsLine, fieldLine, byteLine, rowText, textAt}
+use Rattle.blaming.specs.Bytes.{lengthsLine, fieldLine, byteLine, ownersText, textAt}
 use Rattle.blaming.proofs.Beginnings.{Refuses}
 
 module _ (col : Column) (s : List ℕ) (against : Column) (t : List ℕ) (i : ℕ) where
@@ -26,14 +25,10 @@ module _ (col : Column) (s : List ℕ) (against : Column) (t : List ℕ) (i : �
   unfolding textAt
   text-same e = rw e
 
-  pub text-none : eqb (getD s i 0) (getD t i 0) ≡ false → ownersFound col s i ≡ NoRow → textAt col s against t i ≡ byteLine i (partOf s col i)
+  pub text-differs : eqb (getD s i 0) (getD t i 0) ≡ false
+      → textAt col s against t i ≡ byteLine i (partOf s col i) ++ ownersText (ownRow col s) (ownRow against t) (ownersFound col s i)
   unfolding textAt
-  text-none e none = rw (e, none) (append-nil (byteLine i (partOf s col i)))
-
-  pub text-rows : (first last : ℕ) → eqb (getD s i 0) (getD t i 0) ≡ false → ownersFound col s i ≡ Rows first last
-      → textAt col s against t i ≡ byteLine i (partOf s col i) ++ rowTexts (rowText (ownRow col s) (ownRow against t)) first (last + 1 - first)
-  unfolding textAt
-  text-rows first last e some = rw (e, some)
+  text-differs e = rw e
 
 module _ (s t : List ℕ) where
   pub starts-left : {number : ℕ} → Refuses s number → starts (openedHere s) (openedHere t) s t ≡ only (namedLine (ascii "left refused ") number)

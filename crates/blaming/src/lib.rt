@@ -42,6 +42,39 @@ pub struct Looked {
     pub bytes: usize,
 }
 
+// Internal: asks for two columns, each opened of its bytes. Begins a blame of them: looks at their lengths and fields.
+fn begin_both(
+    column: Column,
+    left: &[u8],
+    against: Column,
+    right: &[u8],
+    line: &mut [u8; 128],
+) -> Begun
+    requires { ⌜ Opens (now left) column × Opens (now right) against ⌝ }
+    ensures { λ r. ⌜ BegunAs (starts (openedHere (now (left .entry))) (openedHere (now (right .entry))) (now (left .entry)) (now (right .entry))) r (now (line .entry)) (now (line .exit)) ⌝ }
+{
+    if left.len() != right.len() {
+        return Begun::Line(lines::lengths_line(left.len(), right.len(), line));
+    }
+    if let Field::At(offset, name) = fields::first_field(column, left, right) {
+        return Begun::Line(lines::field_line(offset, name, line));
+    }
+    Begun::Columns(column, against)
+}
+
+// Internal: asks for a column that was opened of the left bytes. Begins a blame of it: opens the right side.
+fn begin_right(column: Column, left: &[u8], right: &[u8], line: &mut [u8; 128]) -> Begun
+    requires { ⌜ Opens (now left) column ⌝ }
+    ensures { λ r. ⌜ BegunAs (starts (openedHere (now (left .entry))) (openedHere (now (right .entry))) (now (left .entry)) (now (right .entry))) r (now (line .entry)) (now (line .exit)) ⌝ }
+{
+    let opened = opening::open_plain(right);
+    let Opened::Column(against, _) = opened else {
+        let number = refusal_number(opened) as u64;
+        return Begun::Line(named_line(b"right refused ", number, line));
+    };
+    begin_both(column, left, against, right, line)
+}
+
 // Begins a blame: opens both sides within a program's limits, and looks at their lengths and fields. Where a side is refused, the left one before the right,
 // where the lengths differ or a field does, the line that says so, the only one then, is written at the start of the lent one.
 pub fn begin(left: &[u8], right: &[u8], line: &mut [u8; 128]) -> Begun
@@ -52,18 +85,7 @@ pub fn begin(left: &[u8], right: &[u8], line: &mut [u8; 128]) -> Begun
         let number = refusal_number(opened) as u64;
         return Begun::Line(named_line(b"left refused ", number, line));
     };
-    let other = opening::open_plain(right);
-    let Opened::Column(against, _) = other else {
-        let number = refusal_number(other) as u64;
-        return Begun::Line(named_line(b"right refused ", number, line));
-    };
-    if left.len() != right.len() {
-        return Begun::Line(lines::lengths_line(left.len(), right.len(), line));
-    }
-    if let Field::At(offset, name) = fields::first_field(column, left, right) {
-        return Begun::Line(lines::field_line(offset, name, line));
-    }
-    Begun::Columns(column, against)
+    begin_right(column, left, right, line)
 }
 
 // Internal: asks for two columns, each opened of its bytes. Writes the text of the offsets from `from` on at the start of a buffer, while a longest text has room. A byte

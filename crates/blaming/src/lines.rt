@@ -3,7 +3,7 @@ ghost use Prim.Native.Nat.{_+_, _≤_};
 ghost use mathlib.Core.List.{_++_};
 ghost use lib.ListN.{length};
 ghost use Rattle.io.specs.Counts.{Counts};
-ghost use Rattle.format.specs.Listing.{ascii, named, namedLine};
+ghost use Rattle.format.specs.Listing.{ascii, named, namedLine, answerText};
 ghost use Rattle.format.specs.Outcome.{Wrote};
 ghost use Rattle.format.specs.Refusals.{rowMeaning};
 ghost use Rattle.explaining.specs.Bytes.{partMeaning};
@@ -74,6 +74,16 @@ pub(crate) fn put_byte_line(out: &mut [u8], at: usize, offset: usize, part: Part
     put_byte(out, words, b'\n')
 }
 
+// Internal: asks for room of twenty-one bytes, and no answer takes more. Writes what a row answers behind a space, and returns the offset behind it.
+fn put_spaced(out: &mut [u8], at: usize, answer: RowRead) -> usize
+    requires { ⌜ at + 21 ≤ length (now out) ⌝ }
+    ensures { λ r. ⌜ Wrote (now (out .entry)) at (ascii " " ++ answerText (rowMeaning answer)) (now (out .exit)) r ⌝ }
+    ensures { λ r. ⌜ r ≤ at + 21 ⌝ }
+{
+    let space = put_byte(out, at, b' ');
+    put_answer(out, space, answer)
+}
+
 // Internal: asks for room of fifty-seven bytes, and no line takes more. Writes the line of a row, and returns the offset behind it.
 pub(crate) fn put_row(out: &mut [u8], at: usize, row: u32, left: RowRead, right: RowRead) -> usize
     requires { ⌜ at + 57 ≤ length (now out) ⌝ }
@@ -81,9 +91,7 @@ pub(crate) fn put_row(out: &mut [u8], at: usize, row: u32, left: RowRead, right:
     ensures { λ r. ⌜ r ≤ at + 57 ⌝ }
 {
     let number = put_named(out, at, b"row ", row as u64);
-    let first = put_byte(out, number, b' ');
-    let between = put_answer(out, first, left);
-    let second = put_byte(out, between, b' ');
-    let end = put_answer(out, second, right);
-    put_byte(out, end, b'\n')
+    let first = put_spaced(out, number, left);
+    let second = put_spaced(out, first, right);
+    put_byte(out, second, b'\n')
 }

@@ -5,7 +5,8 @@ ghost use lib.ListN.{length};
 ghost use Rattle.format.specs.Listing.{rowTexts};
 ghost use Rattle.format.specs.Outcome.{Wrote};
 ghost use Rattle.text.specs.Own.{ownRow, ownAt, Opens, Owned};
-ghost use Rattle.blaming.specs.Bytes.{blameMax, rowText, textAt};
+ghost use Rattle.bytewise.specs.Owners.{Few};
+ghost use Rattle.blaming.specs.Bytes.{blameMax, rowText, ownersText, textAt};
 use crate::lines::put_byte_line;
 use crate::lines::put_row;
 use bytewise::fields::same_at;
@@ -53,6 +54,33 @@ fn put_rows(
     end
 }
 
+// Internal: asks for two columns, each opened of its bytes, for at most eight rows, and for room for their lines. Writes the lines of the rows that a byte names, and returns
+// the offset behind them.
+fn put_owners(
+    out: &mut [u8],
+    at: usize,
+    left: Column,
+    lbytes: &[u8],
+    right: Column,
+    rbytes: &[u8],
+    owners: Owners,
+) -> usize
+    requires { ⌜ Opens (now lbytes) left × Opens (now rbytes) right ⌝ }
+    requires { ⌜ Few owners ⌝ }
+    requires { ⌜ at + 456 ≤ length (now out) ⌝ }
+    ensures { λ r. ⌜ Wrote (now (out .entry)) at (ownersText (ownRow left (now (lbytes .entry))) (ownRow right (now (rbytes .entry))) owners) (now (out .exit)) r ⌝ }
+    ensures { λ r. ⌜ r ≤ at + 456 ⌝ }
+{
+    match owners {
+        Owners::Rows { first, last } => {
+            let l = own_at(left, lbytes, first);
+            let r = own_at(right, rbytes, first);
+            put_rows(out, at, l, lbytes, r, rbytes, first, last)
+        }
+        Owners::NoRow => at,
+    }
+}
+
 // Internal: asks for two columns, each opened of its bytes, and for room for a longest text. Writes the text of an offset, and returns the offset behind it.
 pub(crate) fn put_offset(
     out: &mut [u8],
@@ -73,12 +101,6 @@ pub(crate) fn put_offset(
     }
     let part = explaining::part_at(left, lbytes, offset);
     let line = put_byte_line(out, at, offset, part);
-    match owners_of(left, lbytes, offset) {
-        Owners::Rows { first, last } => {
-            let l = own_at(left, lbytes, first);
-            let r = own_at(right, rbytes, first);
-            put_rows(out, line, l, lbytes, r, rbytes, first, last)
-        }
-        Owners::NoRow => line,
-    }
+    let owners = owners_of(left, lbytes, offset);
+    put_owners(out, line, left, lbytes, right, rbytes, owners)
 }

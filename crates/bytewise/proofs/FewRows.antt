@@ -1,5 +1,5 @@
 -- A byte names at most eight rows, whatever the column.
---     Few, found-few      the first is not behind the last, and at most seven before it
+--     found-few
 -- Assumes nothing.
 use Prim.Native.Nat.{ℕ, zero, suc, _+_, _-_, _*_, _/_, _≤_, _<_, min}
 use mathlib.Core.Path.{_≡_, refl}
@@ -20,15 +20,11 @@ use Rattle.format.specs.Listing.{openedHere}
 use Rattle.format.specs.Outcome.{Outcome.value, _>>_, demand, pick}
 use Rattle.format.specs.Packing.{width, legal}
 use Rattle.format.specs.Parts.{Run, runOwners, blockRun, orElse, blockOwners, areaOwners, ownersAt}
-use Rattle.explaining.specs.Bytes.{fitsAt, rowsOf}
-use Rattle.explaining.proofs.Runs.{wide-run}
+use Rattle.explaining.specs.Bytes.{fitsAt}
+use Rattle.owning.specs.Bytes.{rowsOf}
+use Rattle.owning.proofs.Runs.{wide-run}
 use Rattle.text.specs.Own.{tableOf}
-use Rattle.bytewise.specs.Owners.{ownersIn, ownersFound}
-
--- the first is not behind the last, and at most seven before it
-abbrev pub Few : Owners → Type 0
-Few (Rows first last) = (first ≤ last) × (last < first + 8)
-Few NoRow = Unit {0}
+use Rattle.bytewise.specs.Owners.{ownersIn, ownersFound, Few}
 
 and-right : (a b : Bool) → (a && b) ≡ true → b ≡ true
 and-right true b e = e

@@ -2,12 +2,13 @@
 ghost use mathlib.Core.Path.{_≡_};
 ghost use lib.Dec.{eqb};
 ghost use lib.ListN.{length, getD};
-ghost use Rattle.format.specs.Parts.{shapeOf};
 ghost use Rattle.explaining.specs.Bytes.{partOf, partMeaning};
 ghost use Rattle.bytewise.specs.Fields.{isField, fieldOr, firstField};
 use explaining::PartRead;
+use explaining::naming::shape_of;
 use format::Column;
 use format::PartName;
+use format::Shape;
 
 // The first byte of a field that differs, with the field's name; or there is none.
 pub enum Field {
@@ -29,26 +30,17 @@ pub fn same_at(left: &[u8], right: &[u8], offset: usize) -> bool
     byte_at(left, offset) == byte_at(right, offset)
 }
 
-// Whether a part is a field: no rule reads the other parts, but for the area, whose bits are the rows'.
-fn is_field(name: PartName) -> bool
-    ensures { λ r. ⌜ r ≡ isField (shapeOf name) ⌝ }
+// Whether a part is a field, by how it is spelled: no rule reads the other parts, but for the area, whose bits are the rows'.
+fn is_field(shape: Shape) -> bool
+    ensures { λ r. ⌜ r ≡ isField shape ⌝ }
 {
-    match name {
-        PartName::Code => true,
-        PartName::Minimum => true,
-        PartName::Gcd => true,
-        PartName::Count => true,
-        PartName::Rows => true,
-        PartName::Slope => true,
-        PartName::Intercept => true,
-        PartName::Width => true,
-        PartName::Area => false,
-        PartName::Behind => false,
-        PartName::BlockSlope(_) => true,
-        PartName::BlockIntercept(_) => true,
-        PartName::BlockWidth(_) => true,
-        PartName::Spare => false,
-        PartName::FooterLength => true,
+    match shape {
+        Shape::Varint => true,
+        Shape::Byte => true,
+        Shape::Four => true,
+        Shape::Area => false,
+        Shape::Behind => false,
+        Shape::Spare => false,
     }
 }
 
@@ -59,7 +51,7 @@ fn field_in(part: PartRead, offset: usize) -> Field
     match part {
         PartRead::Part(part) => {
             let name = part.name;
-            if is_field(name) {
+            if is_field(shape_of(name)) {
                 return Field::At(offset, name);
             }
             Field::Nothing

@@ -1,13 +1,12 @@
 // The rows that a byte names, by the column's own blocks.
 ghost use mathlib.Core.Path.{_≡_};
 ghost use Rattle.format.specs.Listing.{openedHere};
-ghost use Rattle.explaining.specs.Bytes.{rowsOf, rowsMeaning};
+ghost use Rattle.owning.specs.Bytes.{rowsOf, rowsMeaning};
 ghost use Rattle.text.specs.Own.{tableOf, Opens};
 ghost use Rattle.bytewise.specs.Owners.{ownersFound};
-use explaining::RowsRead;
-use explaining::owning;
 use format::Column;
 use format::Owners;
+use owning::RowsRead;
 
 // Internal: asks for a column that was opened of these bytes. The rows that own a bit of the byte at an offset: the search takes its blocks out of the footer, one after another.
 fn rows_at(column: Column, bytes: &[u8], offset: usize) -> RowsRead

@@ -5,8 +5,8 @@ use Rattle.format.proofs.Checked as C
 use Rattle.format.proofs.Checked.Laws as C′
 use Rattle.format.proofs.Kind as K
 use Rattle.format.proofs.Kind.Laws as K′
-use Rattle.explaining.proofs.RowsRead as R
-use Rattle.explaining.proofs.RowsRead.Laws as R′
+use Rattle.owning.proofs.RowsRead as R
+use Rattle.owning.proofs.RowsRead.Laws as R′
 use Rattle.plain.proofs.Made as M
 use Rattle.plain.proofs.Made.Laws as M′
 use Rattle.plain.proofs.kinds.Known as N

@@ -17,7 +17,8 @@ use Rattle.format.specs.Replaying.{Report, replayed}
 use Rattle.format.specs.Runs.{decoded}
 use Rattle.format.specs.Sheets.{openedUnder}
 use Rattle.format.specs.Typed.{storedAs}
-use Rattle.explaining.specs.Bytes.{partOf, rowsOf}
+use Rattle.explaining.specs.Bytes.{partOf}
+use Rattle.owning.specs.Bytes.{rowsOf}
 use Rattle.plain.specs.Explaining.{partNumbers, rowsIn, Tells}
 use Rattle.plain.specs.Kinds.{kindFrom}
 use Rattle.plain.specs.Numbers.{columnFrom, Answers, Describes}

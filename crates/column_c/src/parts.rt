@@ -2,14 +2,14 @@
 ghost use Rattle.plain.specs.Explaining.{Tells};
 ghost use Rattle.column_c.specs.Calls.{partFrom, rowsFrom};
 use explaining::PartRead;
+use explaining::naming::block_of;
+use explaining::naming::which_part;
 use format::Block;
 use plain::ACCEPTED;
 use plain::Made;
 use plain::column_from;
 use plain::column_of;
-use plain::parts::block_of;
 use plain::parts::rows_told;
-use plain::parts::which_part;
 use plain::told;
 
 // The part that holds the byte at an offset.
@@ -64,6 +64,6 @@ pub extern "C" fn hulemartob_rows_at(
 {
     let made = column_from(column);
     let opened = column_of(made);
-    let answer = explaining::rows_at(opened, table, bytes, offset);
+    let answer = byte_rows::rows_at(opened, table, bytes, offset);
     rows_told(made, answer, rows, refusal);
 }

@@ -1,10 +1,9 @@
 -- The contracts determine the answers: two that they allow coincide.
---     next-part-determined, part-determined, rows-determined
+--     next-part-determined, part-determined
 -- Assumes nothing.
 use Prim.Native.Nat.{ℕ}
 use mathlib.Core.Path.{_≡_, sym, ap, _∙_}
 use mathlib.Core.List.{List}
-use Rattle.format.specs.declared.Block.{Block}
 use Rattle.format.specs.declared.Column.{Column}
 use Rattle.format.proofs.Outcomes.{value-same}
 use Rattle.format.proofs.Answers.{numbered-injective}
@@ -12,10 +11,8 @@ use Rattle.explaining.specs.declared.Cursor.{Cursor}
 use Rattle.explaining.specs.declared.Walked.{Walked}
 use Rattle.explaining.specs.declared.PartRead.{PartRead}
 use Rattle.explaining.specs.declared.PartRead.the-variants.{Part as Is, Refused as NoPart}
-use Rattle.explaining.specs.declared.RowsRead.{RowsRead}
-use Rattle.explaining.specs.declared.RowsRead.the-variants.{Owners as Own, Refused as NoOwners}
 use Rattle.explaining.specs.Walk.{walked}
-use Rattle.explaining.specs.Bytes.{partOf, rowsOf, partMeaning, rowsMeaning}
+use Rattle.explaining.specs.Bytes.{partOf, partMeaning}
 
 pub next-part-determined : (s : List ℕ) (col : Column) (place : Cursor) (a b : Walked) → a ≡ walked s col place → b ≡ walked s col place → a ≡ b
 next-part-determined s col place a b p q = p ∙ sym q
@@ -26,17 +23,6 @@ part-injective (Is a) (NoPart q) e = cc
 part-injective (NoPart r) (Is b) e = cc
 part-injective (NoPart r) (NoPart q) e = ap NoPart (numbered-injective r q e)
 
-rows-injective : (r q : RowsRead) → rowsMeaning r ≡ rowsMeaning q → r ≡ q
-rows-injective (Own a) (Own b) e = ap Own (value-same e)
-rows-injective (Own a) (NoOwners q) e = cc
-rows-injective (NoOwners r) (Own b) e = cc
-rows-injective (NoOwners r) (NoOwners q) e = ap NoOwners (numbered-injective r q e)
-
 -- two answers of `part_at`
 pub part-determined : (s : List ℕ) (col : Column) (i : ℕ) (a b : PartRead) → partMeaning a ≡ partOf s col i → partMeaning b ≡ partOf s col i → a ≡ b
 part-determined s col i a b p q = part-injective a b (p ∙ sym q)
-
--- and of `rows_at`
-pub rows-determined : (s : List ℕ) (col : Column) (t : List Block) (i : ℕ) (a b : RowsRead)
-    → rowsMeaning a ≡ rowsOf s col t i → rowsMeaning b ≡ rowsOf s col t i → a ≡ b
-rows-determined s col t i a b p q = rows-injective a b (p ∙ sym q)

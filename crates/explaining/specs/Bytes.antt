@@ -1,4 +1,4 @@
--- What each byte is, as the calls answer: its part, and the rows that own a bit of it; 13 where column and bytes do not fit together at its offset.
+-- What each byte is, as the calls answer: its part; 13 where column and bytes do not fit together at its offset.
 -- Assumes nothing.
 use Prim.Native.Nat.{ℕ, _+_}
 use mathlib.Core.Bool.{Bool, _&&_}
@@ -6,17 +6,13 @@ use mathlib.Core.List.{List, []}
 use mathlib.Core.Option.{Option, none, some}
 use lib.Dec.{ltb, leb}
 use lib.ListN.{length}
-use Rattle.format.specs.declared.Block.{Block}
 use Rattle.format.specs.declared.Column.{Column}
 use Rattle.format.specs.declared.Part.{Part}
-use Rattle.format.specs.declared.Owners.{Owners}
 use Rattle.format.specs.Outcome.{Outcome, Outcome.value, Outcome.refusal, _>>_, demand}
 use Rattle.format.specs.Refusals.{numbered}
-use Rattle.format.specs.Parts.{partAt, ownersAt}
+use Rattle.format.specs.Parts.{partAt}
 use Rattle.explaining.specs.declared.PartRead.{PartRead}
 use Rattle.explaining.specs.declared.PartRead.the-variants.{Part as Is, Refused as NoPart}
-use Rattle.explaining.specs.declared.RowsRead.{RowsRead}
-use Rattle.explaining.specs.declared.RowsRead.the-variants.{Owners as Own, Refused as NoOwners}
 
 -- whether column and bytes fit together at an offset: the area lies in the bytes, and so does the offset
 abbrev pub fitsAt : (s : List ℕ) → Column → (i : ℕ) → Bool
@@ -31,16 +27,7 @@ found (some p) = value p
 unfoldable pub partOf : (s : List ℕ) → Column → (i : ℕ) → Outcome Part
 partOf s col i = demand (fitsAt s col i) 13 [] >> found (partAt s col i)
 
--- the rows that own a bit of it
-unfoldable pub rowsOf : (s : List ℕ) → Column → (table : List Block) (i : ℕ) → Outcome Owners
-rowsOf s col t i = demand (fitsAt s col i) 13 [] >> value (ownersAt col t i)
-
 -- what asking for the part found
 abbrev pub partMeaning : PartRead → Outcome Part
 partMeaning (Is p) = value p
 partMeaning (NoPart r) = numbered r
-
--- what asking for the rows found
-abbrev pub rowsMeaning : RowsRead → Outcome Owners
-rowsMeaning (Own o) = value o
-rowsMeaning (NoOwners r) = numbered r

@@ -1,3 +1,3 @@
 pub mod Bytes
-pub mod Search
+pub mod Names
 pub mod Walk

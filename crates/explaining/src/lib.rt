@@ -1,16 +1,13 @@
-// What each byte of a column is, and which rows a byte of the packed area holds: the parts one after another, the part of an offset, and the rows that own a
-// bit of a byte. The calls take an opened column with its bytes, and ask nothing of them: what does not fit together at an offset is refused.
+// What each byte of a column is: the parts one after another, and the part of an offset. The calls take an opened column with its bytes, and ask nothing of
+// them: what does not fit together at an offset is refused.
 mod measuring;
-mod naming;
-pub mod owning;
+pub mod naming;
 
 ghost use mathlib.Core.Path.{_≡_};
 ghost use Rattle.format.specs.Parts.{partAt};
 ghost use Rattle.explaining.specs.Walk.{walked, sought};
-ghost use Rattle.explaining.specs.Bytes.{fitsAt, partOf, rowsOf, partMeaning, rowsMeaning};
-use format::Block;
+ghost use Rattle.explaining.specs.Bytes.{fitsAt, partOf, partMeaning};
 use format::Column;
-use format::Owners;
 use format::Part;
 use format::Refusal;
 use naming::Name;
@@ -36,12 +33,6 @@ pub enum Sought {
 // The part that holds the byte at an offset.
 pub enum PartRead {
     Part(Part),
-    Refused(Refusal),
-}
-
-// The rows that own a bit of the byte at an offset.
-pub enum RowsRead {
-    Owners(Owners),
     Refused(Refusal),
 }
 
@@ -84,7 +75,7 @@ fn seek(column: Column, bytes: &[u8], offset: usize) -> Sought
 }
 
 // Whether column and bytes fit together at an offset: the area lies in the bytes, and so does the offset.
-fn fits_at(column: Column, bytes: &[u8], offset: usize) -> bool
+pub fn fits_at(column: Column, bytes: &[u8], offset: usize) -> bool
     ensures { λ r. ⌜ r ≡ fitsAt (now (bytes .entry)) column offset ⌝ }
 {
     if !word::ends_within(column.start, column.size, bytes.len()) {
@@ -104,18 +95,4 @@ pub fn part_at(column: Column, bytes: &[u8], offset: usize) -> PartRead
         Sought::Part(part) => PartRead::Part(part),
         Sought::Nothing => PartRead::Refused(Refusal::Unfit),
     }
-}
-
-// The rows that own a bit of the byte at an offset, from the first to the last, with the column's table. None does before the packed area, behind it, and where a
-// byte of it has filling bits only.
-pub fn rows_at(column: Column, table: &[Block], bytes: &[u8], offset: usize) -> RowsRead
-    ensures { λ r. ⌜ rowsMeaning r ≡ rowsOf (now (bytes .entry)) column (now (table .entry)) offset ⌝ }
-{
-    let mut search = owning::begin(column, bytes, offset);
-    while 0 < search.left {
-        let k = search.next;
-        let block = records::block_at(table, k);
-        search = owning::step(column, block, search);
-    }
-    search.answer
 }

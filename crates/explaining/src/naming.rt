@@ -3,6 +3,7 @@ ghost use mathlib.Core.Path.{_≡_};
 ghost use Prim.Native.Nat.{_+_, _/_};
 ghost use mathlib.Core.List.{[], _∷_, _++_};
 ghost use Rattle.format.specs.Parts.{headNames, names, blockNames, shapeOf};
+ghost use Rattle.explaining.specs.Names.{whichPart, blockOf};
 ghost use Rattle.explaining.specs.Walk.{nth, nameIn, namesBehind};
 ghost use Rattle.format.specs.declared.PartName.the-variants.{Area, Behind, Slope, Intercept, Width, Spare, FooterLength};
 use format::Codec;
@@ -16,7 +17,7 @@ pub enum Name {
 }
 
 // How a part is spelled.
-pub(crate) fn shape_of(name: PartName) -> Shape
+pub fn shape_of(name: PartName) -> Shape
     ensures { λ r. ⌜ r ≡ shapeOf name ⌝ }
 {
     match name {
@@ -35,6 +36,52 @@ pub(crate) fn shape_of(name: PartName) -> Shape
         PartName::BlockWidth(_) => Shape::Byte,
         PartName::Spare => Shape::Spare,
         PartName::FooterLength => Shape::Four,
+    }
+}
+
+// Which part a name is, by its number in the order of the enum.
+pub fn which_part(name: PartName) -> u64
+    ensures { λ r. ⌜ r ≡ whichPart name ⌝ }
+{
+    match name {
+        PartName::Code => 0,
+        PartName::Minimum => 1,
+        PartName::Gcd => 2,
+        PartName::Count => 3,
+        PartName::Rows => 4,
+        PartName::Slope => 5,
+        PartName::Intercept => 6,
+        PartName::Width => 7,
+        PartName::Area => 8,
+        PartName::Behind => 9,
+        PartName::BlockSlope(_) => 10,
+        PartName::BlockIntercept(_) => 11,
+        PartName::BlockWidth(_) => 12,
+        PartName::Spare => 13,
+        PartName::FooterLength => 14,
+    }
+}
+
+// The number of a name's block, 0 where it is no block's.
+pub fn block_of(name: PartName) -> u32
+    ensures { λ r. ⌜ r ≡ blockOf name ⌝ }
+{
+    match name {
+        PartName::Code => 0,
+        PartName::Minimum => 0,
+        PartName::Gcd => 0,
+        PartName::Count => 0,
+        PartName::Rows => 0,
+        PartName::Slope => 0,
+        PartName::Intercept => 0,
+        PartName::Width => 0,
+        PartName::Area => 0,
+        PartName::Behind => 0,
+        PartName::BlockSlope(k) => k,
+        PartName::BlockIntercept(k) => k,
+        PartName::BlockWidth(k) => k,
+        PartName::Spare => 0,
+        PartName::FooterLength => 0,
     }
 }
 
@@ -115,7 +162,7 @@ fn blockwise_name(blocks: u32, number: usize) -> Name
 }
 
 // How many blocks so many rows have.
-pub(crate) fn block_count(rows: u32) -> u32
+pub fn block_count(rows: u32) -> u32
     ensures { λ r. ⌜ r ≡ (rows + 511) / 512 ⌝ }
 {
     ((rows as u64 + 511) / 512) as u32

@@ -2,6 +2,8 @@
 
 -- how an explanation begins
 pub mod Beginnings
+-- names by their number
+pub mod Wording
 -- parts by their number
 pub mod Placing
 -- what the calls come to

@@ -3,13 +3,13 @@ ghost use mathlib.Core.Path.{_≡_};
 ghost use Prim.Native.Nat.{_+_, _≤_};
 ghost use lib.ListN.{length};
 ghost use Rattle.format.specs.Outcome.{Wrote};
-ghost use Rattle.format.specs.Parts.{shapeOf};
 ghost use Rattle.explanation.specs.Explained.{partMax, areaSaid, saidIn, saidText, placeText, partLine, partText};
 use crate::words::put_name;
+use explaining::naming::shape_of;
 use format::Codec;
 use format::Column;
 use format::Part;
-use format::PartName;
+use format::Shape;
 use text::put::put_byte;
 use text::put::put_decimal;
 use text::put::put_named;
@@ -32,26 +32,17 @@ fn area_bits(codec: Codec, count: u64) -> Said
     }
 }
 
-// By a part's name, from its number and what is said of the area.
-fn said_of(name: PartName, value: u64, area: Said) -> Said
-    ensures { λ r. ⌜ r ≡ saidIn (shapeOf name) value area ⌝ }
+// By how a part is spelled, from its number and what is said of the area.
+fn said_of(shape: Shape, value: u64, area: Said) -> Said
+    ensures { λ r. ⌜ r ≡ saidIn shape value area ⌝ }
 {
-    match name {
-        PartName::Code => Said::Number(value),
-        PartName::Minimum => Said::Number(value),
-        PartName::Gcd => Said::Number(value),
-        PartName::Count => Said::Number(value),
-        PartName::Rows => Said::Number(value),
-        PartName::Slope => Said::Number(value),
-        PartName::Intercept => Said::Number(value),
-        PartName::Width => Said::Number(value),
-        PartName::Area => area,
-        PartName::Behind => Said::Nothing,
-        PartName::BlockSlope(_) => Said::Number(value),
-        PartName::BlockIntercept(_) => Said::Number(value),
-        PartName::BlockWidth(_) => Said::Number(value),
-        PartName::Spare => Said::Nothing,
-        PartName::FooterLength => Said::Number(value),
+    match shape {
+        Shape::Varint => Said::Number(value),
+        Shape::Byte => Said::Number(value),
+        Shape::Four => Said::Number(value),
+        Shape::Area => area,
+        Shape::Behind => Said::Nothing,
+        Shape::Spare => Said::Nothing,
     }
 }
 
@@ -87,7 +78,7 @@ fn put_line(out: &mut [u8], at: usize, column: Column, part: Part) -> usize
 {
     let codec = column.codec;
     let name = part.name;
-    let said = said_of(name, part.value, area_bits(codec, column.count));
+    let said = said_of(shape_of(name), part.value, area_bits(codec, column.count));
     let place = put_place(out, at, part.first, part.bytes);
     let words = put_name(out, place, name);
     let behind = put_said(out, words, said);

@@ -1,4 +1,4 @@
--- `put_row` meets its contract: six fields, one behind the other; a row's number has at most ten digits.
+-- `put_row` meets its contract: four fields, one behind the other; a row's number has at most ten digits.
 -- Assumes nothing.
 use Prim.Native.Nat.{_≤_}
 use native.Mathlib.Omega.{arith}
@@ -22,20 +22,14 @@ slice-aggregate-put-named c = search needs
 put-named-requires : tie.Need-put-named-requires
 put-named-requires c κs = omega (arith, most (c .before .before))
 
+put-spaced-requires : tie.Need-put-spaced-requires
+put-spaced-requires c κs = omega (arith, most (c .before .before .before .before .before .before))
+
+put-spaced-requires-2 : tie.Need-put-spaced-requires-2
+put-spaced-requires-2 c κs = omega (arith, most (c .before .before .before .before .before .before .before .before .before .before))
+
 put-byte-requires : tie.Need-put-byte-requires
-put-byte-requires c κs = omega (arith, most (c .before .before .before .before .before .before))
-
-put-answer-requires : tie.Need-put-answer-requires
-put-answer-requires c κs = omega (arith, most (c .before .before .before .before .before .before .before .before .before .before))
-
-put-byte-requires-2 : tie.Need-put-byte-requires-2
-put-byte-requires-2 c κs = omega (arith, most (c .before .before .before .before .before .before .before .before .before .before .before .before .before .before))
-
-put-answer-requires-2 : tie.Need-put-answer-requires-2
-put-answer-requires-2 c κs = omega (arith, most (c .before .before .before .before .before .before .before .before .before .before .before .before .before .before .before .before .before .before))
-
-put-byte-requires-3 : tie.Need-put-byte-requires-3
-put-byte-requires-3 c κs = omega (arith, most (c .before .before .before .before .before .before .before .before .before .before .before .before .before .before .before .before .before .before .before .before .before .before))
+put-byte-requires c κs = omega (arith, most (c .before .before .before .before .before .before .before .before .before .before .before .before .before .before))
 
 same-length : tie.Need-same-length
 same-length c = search needs
@@ -45,12 +39,9 @@ unfolding bothLine
 returns c =
     let end = c .before .before in
     let second = end .before .before .before .before in
-    let between = second .before .before .before .before in
-    let first = between .before .before .before .before in
-    let space = first .before .before .before .before in
-    let number = space .before .before .before .before in (
-      wrote-then (number .put-named .ensures) (wrote-then (space .put-byte .ensures) (wrote-then (first .put-answer .ensures .0)
-          (wrote-then (between .put-byte2 .ensures) (wrote-then (second .put-answer2 .ensures .0) (end .put-byte3 .ensures))))),
+    let first = second .before .before .before .before in
+    let number = first .before .before .before .before in (
+      wrote-then (number .put-named .ensures) (wrote-then (first .put-spaced .ensures .0) (wrote-then (second .put-spaced2 .ensures .0) (end .put-byte .ensures))),
       omega (arith, most (number .before .before .before)),
     )
 
@@ -60,10 +51,8 @@ put-row-spec =
     (tie.spec
     slice-aggregate-put-named
     put-named-requires
+    put-spaced-requires
+    put-spaced-requires-2
     put-byte-requires
-    put-answer-requires
-    put-byte-requires-2
-    put-answer-requires-2
-    put-byte-requires-3
     same-length
     returns)

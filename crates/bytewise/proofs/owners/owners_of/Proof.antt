@@ -2,7 +2,7 @@
 -- Assumes nothing.
 use mathlib.Core.Path.{sym, ap}
 use Rattle.format.proofs.Outcomes.{told}
-use Rattle.explaining.specs.Bytes.{rowsMeaning}
+use Rattle.owning.specs.Bytes.{rowsMeaning}
 use Rattle.bytewise.specs.Owners.{ownersIn}
 use borrow.Author.Needs.{needs}
 use Rattle.bytewise.proofs.owners.owners_of.Statement.{statement}

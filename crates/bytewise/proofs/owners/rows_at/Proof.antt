@@ -8,9 +8,9 @@ use denote.Ref.{now}
 use Rattle.format.specs.declared.Column.{Column}
 use Rattle.format.specs.Listing.{openedHere}
 use Rattle.format.specs.Reading.{blockAt}
-use Rattle.explaining.specs.Bytes.{rowsOf}
-use Rattle.explaining.specs.Search.{searched, Searching}
-use Rattle.explaining.proofs.Searches.{search-ends}
+use Rattle.owning.specs.Bytes.{rowsOf}
+use Rattle.owning.specs.Search.{searched, Searching}
+use Rattle.owning.proofs.Searches.{search-ends}
 use Rattle.text.specs.declared.own.Own.{Own}
 use Rattle.text.specs.Own.{tableOf, ownAt, Owned}
 use Rattle.text.proofs.Owns.{own-few, own-block, owned-first, owned-at}

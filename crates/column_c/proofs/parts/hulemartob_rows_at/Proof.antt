@@ -13,8 +13,8 @@ use Rattle.walking.proofs.Data.{vals, number, have, typed, fits}
 use Rattle.format.specs.declared.Block.{Block}
 use Rattle.format.specs.declared.Column.{Column}
 use Rattle.format.specs.Outcome.{Outcome}
-use Rattle.explaining.specs.declared.RowsRead.{RowsRead}
-use Rattle.explaining.specs.Bytes.{rowsOf, rowsMeaning}
+use Rattle.owning.specs.declared.RowsRead.{RowsRead}
+use Rattle.owning.specs.Bytes.{rowsOf, rowsMeaning}
 use Rattle.records.proofs.Types as Ty
 use Rattle.plain.specs.declared.Made.{Made}
 use Rattle.plain.specs.Explaining.{rowsIn, Tells}
@@ -30,10 +30,10 @@ use Rattle.plain.proofs.column_of as co
 use Rattle.plain.proofs.column_of.Symbol as co-def
 use Rattle.plain.proofs.column_of.Symbol.{name as #plain·column-of}
 use Rattle.plain.proofs.column_of.Met as co-thm
-use Rattle.explaining.proofs.rows_at as ra
-use Rattle.explaining.proofs.rows_at.Symbol as ra-def
-use Rattle.explaining.proofs.rows_at.Symbol.{name as #explaining·rows-at}
-use Rattle.explaining.proofs.rows_at.Met as ra-thm
+use Rattle.byte_rows.proofs.rows_at as ra
+use Rattle.byte_rows.proofs.rows_at.Symbol as ra-def
+use Rattle.byte_rows.proofs.rows_at.Symbol.{name as #byte-rows·rows-at}
+use Rattle.byte_rows.proofs.rows_at.Met as ra-thm
 use Rattle.plain.proofs.parts.rows_told as rt
 use Rattle.plain.proofs.parts.rows_told.Symbol as rt-def
 use Rattle.plain.proofs.parts.rows_told.Symbol.{name as #plain·parts·rows-told}
@@ -115,7 +115,7 @@ module _ {M : Type 1} (𝓤 : URA M) (H : Heap 𝓤) (A : Atoms 𝓤) (W : Given
   abbrev Says-rt : Made → RowsRead → List ℕ → List ℕ → Type 0
   Says-rt made answer rows′ refusal′ = Tells (after (madeMeaning made) (rowsIn (rowsMeaning answer))) refusal′ (rows .now) rows′
 
-  module _ (C : Calls 𝓤 H) (Λ : Loops 𝓤 H) (fm : FmC 𝓤 H (W .laws) C) (known-cf : Triple 𝓤 (C #plain·column-from) (From 𝓤 H A mem run)) (known-co : Triple 𝓤 (C #plain·column-of) (Of 𝓤 H A mem run)) (known-ra : Triple 𝓤 (C #explaining·rows-at) (Rows 𝓤 H A mem run)) (known-rt : Triple 𝓤 (C #plain·parts·rows-told) (Told 𝓤 H A mem run)) where
+  module _ (C : Calls 𝓤 H) (Λ : Loops 𝓤 H) (fm : FmC 𝓤 H (W .laws) C) (known-cf : Triple 𝓤 (C #plain·column-from) (From 𝓤 H A mem run)) (known-co : Triple 𝓤 (C #plain·column-of) (Of 𝓤 H A mem run)) (known-ra : Triple 𝓤 (C #byte-rows·rows-at) (Rows 𝓤 H A mem run)) (known-rt : Triple 𝓤 (C #plain·parts·rows-told) (Told 𝓤 H A mem run)) where
     walk : length (table .now) < 2 ^ 64 → length (bytes .now) < 2 ^ 64 → offset < 2 ^ 64
         → ent 𝓤 (onEntry 𝓤 H A f.signature κs (q₀, (q₁, (q₂, (q₃, (q₄, tt))))) x at) (WpFn 𝓤 H C Λ code.function (column-at ∷ table-at ∷ bytes-at ∷ vint w64 offset ∷ rows-at ∷ refusal-at ∷ []) Post)
     walk table-fits bytes-fits offset-fits =
@@ -151,7 +151,7 @@ module _ {M : Type 1} (𝓤 : URA M) (H : Heap 𝓤) (A : Atoms 𝓤) (W : Given
         by ! (exits (zrt .1 .1 .0) (zrt .1 .1 .1 .0) (subst (λ (o : Outcome (List ℕ)). Tells o (zrt .1 .1 .1 .0) (rows .now) (zrt .1 .1 .0)) (joined (λ (col : Column). rowsIn (rowsOf (bytes .now) col (table .now) offset)) (column .now) made made-is c-is (ap rowsIn answer-is)) u-is)))))))))))))))))))))))
 
 module _ {M : Type 1} (𝓤 : URA M) (H : Heap 𝓤) (A : Atoms 𝓤) (W : Given 𝓤 H A) (mem : Memory → SProp 𝓤) (run : Routine → Fun 𝓤) where
-  walks : (𝓣 : Tables 𝓤 H) → Triple 𝓤 (𝓣 .C #plain·column-from) (From 𝓤 H A mem run) → Triple 𝓤 (𝓣 .C #plain·column-of) (Of 𝓤 H A mem run) → Triple 𝓤 (𝓣 .C #explaining·rows-at) (Rows 𝓤 H A mem run) → Triple 𝓤 (𝓣 .C #plain·parts·rows-told) (Told 𝓤 H A mem run)
+  walks : (𝓣 : Tables 𝓤 H) → Triple 𝓤 (𝓣 .C #plain·column-from) (From 𝓤 H A mem run) → Triple 𝓤 (𝓣 .C #plain·column-of) (Of 𝓤 H A mem run) → Triple 𝓤 (𝓣 .C #byte-rows·rows-at) (Rows 𝓤 H A mem run) → Triple 𝓤 (𝓣 .C #plain·parts·rows-told) (Told 𝓤 H A mem run)
       → Walks 𝓤 H A f.ended stayed (WpFn 𝓤 H (𝓣 .C) (𝓣 .Λ) code.function) (f.clauses 𝓤 H A mem run)
   walks 𝓣 k₁ k₂ k₃ k₄ =
       walked 𝓤 H A f.ended stayed (f.clauses 𝓤 H A mem run) (WpFn 𝓤 H (𝓣 .C) (𝓣 .Λ) code.function) (λ κs. (ptr-vals, (slice-vals, (slice-vals, (uint-vals w64, (ptr-vals, (ptr-vals, tt)))))))
@@ -169,5 +169,5 @@ hulemartob-rows-at-spec 𝓤 H 𝓜 𝓖 𝓡 =
     (f.clauses 𝓤 H (𝓖 .A) (𝓜 .mem) (𝓡 .run)) (WpFn 𝓤 H (𝓣 .C) (𝓣 .Λ) code.function) (WpFn-mono 𝓤 H (W .laws) 𝓣 code.function) (walks 𝓤 H (𝓖 .A) W (𝓜 .mem) (𝓡 .run) 𝓣
     (cited 𝓤 H (From 𝓤 H (𝓖 .A) (𝓜 .mem) (𝓡 .run)) 𝓜 𝓡 code.env #plain·column-from cf-def.routine code.calls-plain·column-from (cf-thm.met 𝓤 H 𝓜 𝓖 𝓡))
     (cited 𝓤 H (Of 𝓤 H (𝓖 .A) (𝓜 .mem) (𝓡 .run)) 𝓜 𝓡 code.env #plain·column-of co-def.routine code.calls-plain·column-of (co-thm.met 𝓤 H 𝓜 𝓖 𝓡))
-    (cited 𝓤 H (Rows 𝓤 H (𝓖 .A) (𝓜 .mem) (𝓡 .run)) 𝓜 𝓡 code.env #explaining·rows-at ra-def.routine code.calls-explaining·rows-at (ra-thm.met 𝓤 H 𝓜 𝓖 𝓡))
+    (cited 𝓤 H (Rows 𝓤 H (𝓖 .A) (𝓜 .mem) (𝓡 .run)) 𝓜 𝓡 code.env #byte-rows·rows-at ra-def.routine code.calls-byte-rows·rows-at (ra-thm.met 𝓤 H 𝓜 𝓖 𝓡))
     (cited 𝓤 H (Told 𝓤 H (𝓖 .A) (𝓜 .mem) (𝓡 .run)) 𝓜 𝓡 code.env #plain·parts·rows-told rt-def.routine code.calls-plain·parts·rows-told (rt-thm.met 𝓤 H 𝓜 𝓖 𝓡))))

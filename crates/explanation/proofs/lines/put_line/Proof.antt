@@ -7,6 +7,9 @@ use borrow.Author.Needs.{needs}
 use Rattle.explanation.proofs.lines.put_line.Statement.{statement}
 use Rattle.explanation.proofs.lines.put_line.Tie as tie
 
+shape-of-requires : tie.Need-shape-of-requires
+shape-of-requires c κs = search needs
+
 area-bits-requires : tie.Need-area-bits-requires
 area-bits-requires c κs = search needs
 
@@ -37,7 +40,7 @@ returns c =
     let place = words .before .before .before .before in
     let said = place .before .before in (
       wrote-then (place .put-place .ensures .0) (wrote-then (words .put-name .ensures .0)
-          (wrote-then (rw (said .said-of .ensures, said .before .area-bits .ensures) at (behind .put-said .ensures .0)) (end .put-byte .ensures))),
+          (wrote-then (rw (said .said-of .ensures, said .before .area-bits .ensures, said .before .before .shape-of .ensures) at (behind .put-said .ensures .0)) (end .put-byte .ensures))),
       omega arith,
     )
 
@@ -45,6 +48,7 @@ pub put-line-spec : {M : Type 1} → statement M
 put-line-spec =
     tie.close
     (tie.spec
+    shape-of-requires
     area-bits-requires
     said-of-requires
     put-place-requires

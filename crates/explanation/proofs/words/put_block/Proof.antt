@@ -1,40 +1,33 @@
--- `put_block` meets its contract: a block's number has at most ten digits.
+-- `put_block` meets its contract: the tests are the definition's.
 -- Assumes nothing.
+use mathlib.Core.Path.{refl, sym, ap}
+use native.Mathlib.Nat.{add-zero}
 use native.Mathlib.Omega.{arith}
-use Prim.Native.Nat.{_≤_}
 use lib.ListN.{length}
-use Rattle.format.specs.Listing.{ascii, named}
-use Rattle.format.proofs.Stores.{wrote-then}
-use Rattle.text.proofs.Decimals.{length-decimal}
-use Rattle.text.proofs.Texts.{length-named}
+use Rattle.explanation.proofs.Wording.{before-low, before-high, before-block}
 use borrow.Author.Needs.{needs}
 use Rattle.explanation.proofs.words.put_block.Statement.{statement}
 use Rattle.explanation.proofs.words.put_block.Tie as tie
 
--- a block's number has at most ten digits
-short : (c : tie.After-put-named-arg2) → length (named (ascii "block ") (c .before .before .before .before .args .block)) ≤ 16
-short c =
-    let k = c .before .before .before .before .args .block in
-    omega (arith, length-named (ascii "block ") k, length-decimal 9 k (omega arith))
+returns : tie.Need-returns
+returns c = rw (before-low _ _ (c .if1 .taken)) (record { ends = sym (add-zero _); list = refl })
+
+returns-2 : tie.Need-returns-2
+returns-2 c = rw (before-high _ _ (c .if2 .taken)) (record { ends = sym (add-zero _); list = refl })
 
 slice-aggregate-put-named : tie.Need-slice-aggregate-put-named
 slice-aggregate-put-named c = search needs
 
 put-named-requires : tie.Need-put-named-requires
-put-named-requires c κs = omega (arith, short c)
-
-put-text-requires : tie.Need-put-text-requires
-put-text-requires c κs = omega (arith, c .before .before .before .put-named .ensures .ends, short (c .before .before .before .before))
+put-named-requires c κs = omega (arith, ap length (before-block _ (c .before .before .before .before .before .args .block) (c .before .before .before .if1 .left) (c .before .before .if2 .left)))
 
 same-length : tie.Need-same-length
 same-length c = search needs
 
-returns : tie.Need-returns
-returns c = let first = c .before .before .before .before .before .before in
-    let wrote = wrote-then (first .put-named .ensures) (c .before .before .put-text .ensures) in
-    (wrote, omega (arith, first .put-named .ensures .ends, c .before .before .put-text .ensures .ends, short (first .before)))
+returns-3 : tie.Need-returns-3
+returns-3 c = rw (before-block _ (c .before .before .before .before .before .before .before .before .args .block) (c .before .before .before .before .before .before .if1 .left) (c .before .before .before .before .before .if2 .left)) (c .before .before .put-named .ensures)
 
 pub put-block-spec : {M : Type 1} → statement M
 put-block-spec =
     tie.close
-    (tie.spec slice-aggregate-put-named put-named-requires put-text-requires same-length returns)
+    (tie.spec returns returns-2 slice-aggregate-put-named put-named-requires same-length returns-3)

@@ -1,326 +1,44 @@
--- `put_name` meets its contract: each arm is a line of the table, and none is longer than the longest name.
+-- `put_name` meets its contract: a name is what stands before its words, and its words.
 -- Assumes nothing.
 use native.Mathlib.Omega.{arith}
+use Rattle.format.proofs.Stores.{wrote-then}
+use Rattle.explanation.proofs.Wording.{Named, name-made}
 use borrow.Author.Needs.{needs}
 use Rattle.explanation.proofs.words.put_name.Statement.{statement}
 use Rattle.explanation.proofs.words.put_name.Tie as tie
 
-enum-told : tie.Need-enum-told
-enum-told c = search needs
+-- the name by its two numbers
+made : (c : tie.After-block-of) → Named (c .before .before .before .before .args .name) (c .before .before .which-part .result) (c .block-of .result)
+made c = name-made (c .before .before .before .before .args .name) (c .before .before .which-part .ensures) (c .block-of .ensures) (omega arith)
 
-slice-aggregate-put-text : tie.Need-slice-aggregate-put-text
-slice-aggregate-put-text c = search needs
+which-part-requires : tie.Need-which-part-requires
+which-part-requires c κs = search needs
 
-put-text-requires : tie.Need-put-text-requires
-put-text-requires c κs = search needs
-
-enum-told-2 : tie.Need-enum-told-2
-enum-told-2 c = search needs
-
-slice-aggregate-put-text-2 : tie.Need-slice-aggregate-put-text-2
-slice-aggregate-put-text-2 c = search needs
-
-put-text-requires-2 : tie.Need-put-text-requires-2
-put-text-requires-2 c κs = search needs
-
-enum-told-3 : tie.Need-enum-told-3
-enum-told-3 c = search needs
-
-slice-aggregate-put-text-3 : tie.Need-slice-aggregate-put-text-3
-slice-aggregate-put-text-3 c = search needs
-
-put-text-requires-3 : tie.Need-put-text-requires-3
-put-text-requires-3 c κs = search needs
-
-enum-told-4 : tie.Need-enum-told-4
-enum-told-4 c = search needs
-
-slice-aggregate-put-text-4 : tie.Need-slice-aggregate-put-text-4
-slice-aggregate-put-text-4 c = search needs
-
-put-text-requires-4 : tie.Need-put-text-requires-4
-put-text-requires-4 c κs = search needs
-
-enum-told-5 : tie.Need-enum-told-5
-enum-told-5 c = search needs
-
-slice-aggregate-put-text-5 : tie.Need-slice-aggregate-put-text-5
-slice-aggregate-put-text-5 c = search needs
-
-put-text-requires-5 : tie.Need-put-text-requires-5
-put-text-requires-5 c κs = search needs
-
-enum-told-6 : tie.Need-enum-told-6
-enum-told-6 c = search needs
-
-slice-aggregate-put-text-6 : tie.Need-slice-aggregate-put-text-6
-slice-aggregate-put-text-6 c = search needs
-
-put-text-requires-6 : tie.Need-put-text-requires-6
-put-text-requires-6 c κs = search needs
-
-enum-told-7 : tie.Need-enum-told-7
-enum-told-7 c = search needs
-
-slice-aggregate-put-text-7 : tie.Need-slice-aggregate-put-text-7
-slice-aggregate-put-text-7 c = search needs
-
-put-text-requires-7 : tie.Need-put-text-requires-7
-put-text-requires-7 c κs = search needs
-
-enum-told-8 : tie.Need-enum-told-8
-enum-told-8 c = search needs
-
-slice-aggregate-put-text-8 : tie.Need-slice-aggregate-put-text-8
-slice-aggregate-put-text-8 c = search needs
-
-put-text-requires-8 : tie.Need-put-text-requires-8
-put-text-requires-8 c κs = search needs
-
-enum-told-9 : tie.Need-enum-told-9
-enum-told-9 c = search needs
-
-slice-aggregate-put-text-9 : tie.Need-slice-aggregate-put-text-9
-slice-aggregate-put-text-9 c = search needs
-
-put-text-requires-9 : tie.Need-put-text-requires-9
-put-text-requires-9 c κs = search needs
-
-enum-told-10 : tie.Need-enum-told-10
-enum-told-10 c = search needs
-
-slice-aggregate-put-text-10 : tie.Need-slice-aggregate-put-text-10
-slice-aggregate-put-text-10 c = search needs
-
-put-text-requires-10 : tie.Need-put-text-requires-10
-put-text-requires-10 c κs = search needs
-
-enum-known-name : tie.Need-enum-known-name
-enum-known-name c = search needs
-
-slice-aggregate-put-block : tie.Need-slice-aggregate-put-block
-slice-aggregate-put-block c = search needs
+block-of-requires : tie.Need-block-of-requires
+block-of-requires c κs = search needs
 
 put-block-requires : tie.Need-put-block-requires
-put-block-requires c κs = search needs
+put-block-requires c κs = omega (arith, made c .short)
 
-enum-known-name-2 : tie.Need-enum-known-name-2
-enum-known-name-2 c = search needs
-
-slice-aggregate-put-block-2 : tie.Need-slice-aggregate-put-block-2
-slice-aggregate-put-block-2 c = search needs
-
-put-block-requires-2 : tie.Need-put-block-requires-2
-put-block-requires-2 c κs = search needs
-
-enum-known-name-3 : tie.Need-enum-known-name-3
-enum-known-name-3 c = search needs
-
-slice-aggregate-put-block-3 : tie.Need-slice-aggregate-put-block-3
-slice-aggregate-put-block-3 c = search needs
-
-put-block-requires-3 : tie.Need-put-block-requires-3
-put-block-requires-3 c κs = search needs
-
-enum-told-11 : tie.Need-enum-told-11
-enum-told-11 c = search needs
-
-slice-aggregate-put-text-11 : tie.Need-slice-aggregate-put-text-11
-slice-aggregate-put-text-11 c = search needs
-
-put-text-requires-11 : tie.Need-put-text-requires-11
-put-text-requires-11 c κs = search needs
-
-enum-told-12 : tie.Need-enum-told-12
-enum-told-12 c = search needs
-
-slice-aggregate-put-text-12 : tie.Need-slice-aggregate-put-text-12
-slice-aggregate-put-text-12 c = search needs
-
-put-text-requires-12 : tie.Need-put-text-requires-12
-put-text-requires-12 c κs = search needs
+put-word-requires : tie.Need-put-word-requires
+put-word-requires c κs = let name = made (c .before .before .before .before) in (name .few, omega (arith, name .short, c .before .before .before .put-block .ensures .ends))
 
 same-length : tie.Need-same-length
 same-length c = search needs
 
 returns : tie.Need-returns
-returns c = let wrote = c .before .before .put-text .ensures in
-    (rw (c .before .before .before .before .before .enum-told .given .1) wrote, omega (arith, wrote .ends))
-
-same-length-2 : tie.Need-same-length-2
-same-length-2 c = search needs
-
-returns-2 : tie.Need-returns-2
-returns-2 c = let wrote = c .before .before .put-text2 .ensures in
-    (rw (c .before .before .before .before .before .enum-told2 .given .1) wrote, omega (arith, wrote .ends))
-
-same-length-3 : tie.Need-same-length-3
-same-length-3 c = search needs
-
-returns-3 : tie.Need-returns-3
-returns-3 c = let wrote = c .before .before .put-text3 .ensures in
-    (rw (c .before .before .before .before .before .enum-told3 .given .1) wrote, omega (arith, wrote .ends))
-
-same-length-4 : tie.Need-same-length-4
-same-length-4 c = search needs
-
-returns-4 : tie.Need-returns-4
-returns-4 c = let wrote = c .before .before .put-text4 .ensures in
-    (rw (c .before .before .before .before .before .enum-told4 .given .1) wrote, omega (arith, wrote .ends))
-
-same-length-5 : tie.Need-same-length-5
-same-length-5 c = search needs
-
-returns-5 : tie.Need-returns-5
-returns-5 c = let wrote = c .before .before .put-text5 .ensures in
-    (rw (c .before .before .before .before .before .enum-told5 .given .1) wrote, omega (arith, wrote .ends))
-
-same-length-6 : tie.Need-same-length-6
-same-length-6 c = search needs
-
-returns-6 : tie.Need-returns-6
-returns-6 c = let wrote = c .before .before .put-text6 .ensures in
-    (rw (c .before .before .before .before .before .enum-told6 .given .1) wrote, omega (arith, wrote .ends))
-
-same-length-7 : tie.Need-same-length-7
-same-length-7 c = search needs
-
-returns-7 : tie.Need-returns-7
-returns-7 c = let wrote = c .before .before .put-text7 .ensures in
-    (rw (c .before .before .before .before .before .enum-told7 .given .1) wrote, omega (arith, wrote .ends))
-
-same-length-8 : tie.Need-same-length-8
-same-length-8 c = search needs
-
-returns-8 : tie.Need-returns-8
-returns-8 c = let wrote = c .before .before .put-text8 .ensures in
-    (rw (c .before .before .before .before .before .enum-told8 .given .1) wrote, omega (arith, wrote .ends))
-
-same-length-9 : tie.Need-same-length-9
-same-length-9 c = search needs
-
-returns-9 : tie.Need-returns-9
-returns-9 c = let wrote = c .before .before .put-text9 .ensures in
-    (rw (c .before .before .before .before .before .enum-told9 .given .1) wrote, omega (arith, wrote .ends))
-
-same-length-10 : tie.Need-same-length-10
-same-length-10 c = search needs
-
-returns-10 : tie.Need-returns-10
-returns-10 c = let wrote = c .before .before .put-text10 .ensures in
-    (rw (c .before .before .before .before .before .enum-told10 .given .1) wrote, omega (arith, wrote .ends))
-
-same-length-11 : tie.Need-same-length-11
-same-length-11 c = search needs
-
-returns-11 : tie.Need-returns-11
-returns-11 c = let wrote = c .before .before .put-block .ensures in
-    (rw (c .before .before .before .before .before .before .name .given .1) (wrote .0), wrote .1)
-
-same-length-12 : tie.Need-same-length-12
-same-length-12 c = search needs
-
-returns-12 : tie.Need-returns-12
-returns-12 c = let wrote = c .before .before .put-block2 .ensures in
-    (rw (c .before .before .before .before .before .before .name2 .given .1) (wrote .0), wrote .1)
-
-same-length-13 : tie.Need-same-length-13
-same-length-13 c = search needs
-
-returns-13 : tie.Need-returns-13
-returns-13 c = let wrote = c .before .before .put-block3 .ensures in
-    (rw (c .before .before .before .before .before .before .name3 .given .1) (wrote .0), wrote .1)
-
-same-length-14 : tie.Need-same-length-14
-same-length-14 c = search needs
-
-returns-14 : tie.Need-returns-14
-returns-14 c = let wrote = c .before .before .put-text11 .ensures in
-    (rw (c .before .before .before .before .before .enum-told11 .given .1) wrote, omega (arith, wrote .ends))
-
-same-length-15 : tie.Need-same-length-15
-same-length-15 c = search needs
-
-returns-15 : tie.Need-returns-15
-returns-15 c = let wrote = c .before .before .put-text12 .ensures in
-    (rw (c .before .before .before .before .before .enum-told12 .given .1) wrote, omega (arith, wrote .ends))
+returns c =
+    let name = made (c .before .before .before .before .before .before .before) in
+    let wrote = wrote-then (c .before .before .before .before .before .before .put-block .ensures) (c .before .before .put-word .ensures) in
+    (rw (name .is) at wrote, omega (arith, name .short, c .before .before .before .before .before .before .put-block .ensures .ends, c .before .before .put-word .ensures .ends))
 
 pub put-name-spec : {M : Type 1} → statement M
 put-name-spec =
     tie.close
     (tie.spec
-    enum-told
-    slice-aggregate-put-text
-    put-text-requires
-    enum-told-2
-    slice-aggregate-put-text-2
-    put-text-requires-2
-    enum-told-3
-    slice-aggregate-put-text-3
-    put-text-requires-3
-    enum-told-4
-    slice-aggregate-put-text-4
-    put-text-requires-4
-    enum-told-5
-    slice-aggregate-put-text-5
-    put-text-requires-5
-    enum-told-6
-    slice-aggregate-put-text-6
-    put-text-requires-6
-    enum-told-7
-    slice-aggregate-put-text-7
-    put-text-requires-7
-    enum-told-8
-    slice-aggregate-put-text-8
-    put-text-requires-8
-    enum-told-9
-    slice-aggregate-put-text-9
-    put-text-requires-9
-    enum-told-10
-    slice-aggregate-put-text-10
-    put-text-requires-10
-    enum-known-name
-    slice-aggregate-put-block
+    which-part-requires
+    block-of-requires
     put-block-requires
-    enum-known-name-2
-    slice-aggregate-put-block-2
-    put-block-requires-2
-    enum-known-name-3
-    slice-aggregate-put-block-3
-    put-block-requires-3
-    enum-told-11
-    slice-aggregate-put-text-11
-    put-text-requires-11
-    enum-told-12
-    slice-aggregate-put-text-12
-    put-text-requires-12
+    put-word-requires
     same-length
-    returns
-    same-length-2
-    returns-2
-    same-length-3
-    returns-3
-    same-length-4
-    returns-4
-    same-length-5
-    returns-5
-    same-length-6
-    returns-6
-    same-length-7
-    returns-7
-    same-length-8
-    returns-8
-    same-length-9
-    returns-9
-    same-length-10
-    returns-10
-    same-length-11
-    returns-11
-    same-length-12
-    returns-12
-    same-length-13
-    returns-13
-    same-length-14
-    returns-14
-    same-length-15
-    returns-15)
+    returns)

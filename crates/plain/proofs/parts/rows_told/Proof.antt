@@ -1,7 +1,7 @@
 -- `plain::parts::rows_told` meets its contract: the column was refused, or the rows are told.
 -- Assumes nothing.
 use mathlib.Core.Path.{refl, sym, ap, _∙_}
-use Rattle.explaining.specs.Bytes.{rowsMeaning}
+use Rattle.owning.specs.Bytes.{rowsMeaning}
 use Rattle.plain.specs.Explaining.{rowsNumbers, rowsIn}
 use Rattle.plain.proofs.Answering.{through, stopped}
 use Rattle.plain.proofs.Telling.{tells, silent}

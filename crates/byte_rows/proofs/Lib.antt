@@ -1,0 +1,2 @@
+-- Laws that the functions' proofs cite; the head of each file lists what it offers.
+pub mod Rounds
