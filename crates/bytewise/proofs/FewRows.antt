@@ -22,7 +22,7 @@ use Rattle.format.specs.Packing.{width, legal}
 use Rattle.format.specs.Parts.{Run, runOwners, blockRun, orElse, blockOwners, areaOwners, ownersAt}
 use Rattle.explaining.specs.Bytes.{fitsAt, rowsOf}
 use Rattle.explaining.proofs.Runs.{wide-run}
-use Rattle.text.specs.Own.{tableOf}
+use Rattle.tableless.specs.Own.{tableOf}
 use Rattle.bytewise.specs.Owners.{ownersIn, ownersFound}
 
 -- the first is not behind the last, and at most seven before it

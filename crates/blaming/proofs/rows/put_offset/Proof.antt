@@ -6,9 +6,9 @@ use native.Mathlib.Nat.{add-zero}
 use native.Mathlib.Omega.{arith}
 use denote.Ref.{now}
 use Rattle.format.proofs.Stores.{wrote-then}
-use Rattle.text.specs.declared.own.Own.{Own}
-use Rattle.text.specs.Own.{Owned}
-use Rattle.text.proofs.Owns.{owned-at}
+use Rattle.tableless.specs.declared.own.Own.{Own}
+use Rattle.tableless.specs.Own.{Owned}
+use Rattle.tableless.proofs.Owns.{owned-at}
 use Rattle.bytewise.proofs.FewRows.{found-few}
 use Rattle.blaming.proofs.Offsets.{text-same, text-none, text-rows}
 use borrow.Author.Needs.{needs}
