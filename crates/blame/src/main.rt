@@ -2,7 +2,7 @@
 // library's, `blaming`; this program moves bytes.
 ghost use Prim.Native.Nat.{_≤_};
 ghost use lib.ListN.{length};
-ghost use Rattle.text.specs.Own.{Opens};
+ghost use Rattle.tableless.specs.Own.{Opens};
 ghost use Rattle.blaming.specs.Bytes.{blameMax};
 use blaming::Begun;
 use format::Column;

@@ -23,7 +23,7 @@ use Rattle.format.specs.Outcome.{Outcome, Outcome.value, Outcome.refusal, pick,
 use Rattle.format.specs.Refusals.{openedMeaning}
 use Rattle.format.proofs.Outcomes.{not-value, value-same}
 use Rattle.explaining.specs.Bytes.{partOf}
-use Rattle.text.specs.Own.{Opens}
+use Rattle.tableless.specs.Own.{Opens}
 use Rattle.text.specs.Refused.{refusedBy}
 use Rattle.text.proofs.Texts.{counts}
 use Rattle.blaming.specs.declared.Begun.the-variants.{Columns, Line}

@@ -12,7 +12,7 @@ use Rattle.format.specs.declared.Column.{Column}
 use Rattle.format.specs.declared.PartName.{PartName}
 use Rattle.format.specs.Listing.{ascii, namedLine, openedHere}
 use Rattle.explaining.specs.Bytes.{partOf}
-use Rattle.text.specs.Own.{ownRow, Opens}
+use Rattle.tableless.specs.Own.{ownRow, Opens}
 use Rattle.bytewise.specs.declared.fields.Field.the-variants.{At, Nothing}
 use Rattle.blaming.specs.Beginning.{starts, Start.both, Start.only}
 use Rattle.bytewise.specs.Fields.{firstField}

@@ -13,7 +13,7 @@ use Rattle.format.specs.Outcome.{Outcome, Outcome.value, Outcome.refusal, pick}
 use Rattle.format.specs.Listing.{ascii, named, namedLine, answerText, rowTexts}
 use Rattle.explaining.specs.Bytes.{partOf}
 use Rattle.explanation.specs.Explained.{nameText}
-use Rattle.text.specs.Own.{ownRow}
+use Rattle.tableless.specs.Own.{ownRow}
 use Rattle.bytewise.specs.declared.counting.Tally.{Tally}
 use Rattle.bytewise.specs.Owners.{ownersFound}
 

@@ -12,7 +12,7 @@ ghost use Rattle.io.specs.Counts.{Counts};
 ghost use Rattle.format.specs.Listing.{openedHere};
 ghost use Rattle.format.specs.Outcome.{Wrote};
 ghost use Rattle.text.specs.Chunk.{chunk};
-ghost use Rattle.text.specs.Own.{Opens};
+ghost use Rattle.tableless.specs.Own.{Opens};
 ghost use Rattle.blaming.specs.Beginning.{starts, BegunAs};
 ghost use Rattle.bytewise.specs.Owners.{ownersFound};
 ghost use Rattle.bytewise.specs.Tallies.{tallied};
@@ -23,9 +23,9 @@ use bytewise::fields;
 use bytewise::fields::Field;
 use format::Column;
 use format::Opened;
+use tableless::opening;
 use text::lines::named_line;
 use text::lines::refusal_number;
-use text::opening;
 
 // The longest text of a byte.
 const BLAME_MAX: usize = 512;

@@ -12,6 +12,7 @@ use explaining::PartRead;
 use explanation::words::put_name;
 use format::PartName;
 use format::RowRead;
+use text::lines::pair_line;
 use text::lines::put_answer;
 use text::put::put_byte;
 use text::put::put_named;
@@ -21,9 +22,7 @@ pub(crate) fn lengths_line(left: usize, right: usize, line: &mut [u8; 128]) -> u
     ensures { λ r. ⌜ Wrote (now (line .entry)) 0 (lengthsLine left right) (now (line .exit)) r ⌝ }
     ensures { λ r. ⌜ Counts r (now (line .exit)) ⌝ }
 {
-    let first = put_named(line, 0, b"lengths differ ", left as u64);
-    let second = put_named(line, first, b" ", right as u64);
-    put_byte(line, second, b'\n')
+    pair_line(b"lengths differ ", left as u64, b" ", right as u64, line)
 }
 
 // Writes the line of a field that differs at the start of a line, and returns its length.
@@ -42,9 +41,7 @@ pub(crate) fn count_line(bytes: usize, rows: u64, line: &mut [u8; 128]) -> usize
     ensures { λ r. ⌜ Wrote (now (line .entry)) 0 (named (ascii "bytes ") bytes ++ namedLine (ascii " rows ") rows) (now (line .exit)) r ⌝ }
     ensures { λ r. ⌜ Counts r (now (line .exit)) ⌝ }
 {
-    let first = put_named(line, 0, b"bytes ", bytes as u64);
-    let second = put_named(line, first, b" rows ", rows);
-    put_byte(line, second, b'\n')
+    pair_line(b"bytes ", bytes as u64, b" rows ", rows, line)
 }
 
 // Internal: asks for room of twenty-six bytes, and no name takes more. Writes the name of the part that was found, and returns the offset behind it.

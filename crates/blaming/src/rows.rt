@@ -4,7 +4,7 @@ ghost use Prim.Native.Nat.{_+_, _-_, _≤_, _<_};
 ghost use lib.ListN.{length};
 ghost use Rattle.format.specs.Listing.{rowTexts};
 ghost use Rattle.format.specs.Outcome.{Wrote};
-ghost use Rattle.text.specs.Own.{ownRow, ownAt, Opens, Owned};
+ghost use Rattle.tableless.specs.Own.{ownRow, ownAt, Opens, Owned};
 ghost use Rattle.bytewise.specs.Owners.{Few};
 ghost use Rattle.blaming.specs.Bytes.{blameMax, rowText, ownersText, textAt};
 use crate::lines::put_byte_line;
@@ -13,14 +13,14 @@ use bytewise::fields::same_at;
 use bytewise::owners::owners_of;
 use format::Column;
 use format::Owners;
-use text::own::Own;
+use tableless::own::Own;
 
 // Internal: asks for a column that was opened of these bytes. The column at the block of a row.
 fn own_at(column: Column, bytes: &[u8], row: u32) -> Own
     requires { ⌜ Opens (now bytes) column ⌝ }
     ensures { λ r. ⌜ r ≡ ownAt (now (bytes .entry)) column row ⌝ }
 {
-    text::own::reach(text::own::begin(bytes, column), bytes, row)
+    tableless::own::reach(tableless::own::begin(bytes, column), bytes, row)
 }
 
 // Internal: asks for two columns, each opened of its bytes, for at most eight rows, and for room for their lines. Writes the lines of the rows from `first` to `last`, and returns
@@ -46,8 +46,8 @@ fn put_rows(
     let mut k = 0;
     while k < count {
         let row = first + k;
-        let a = text::own::answer(left, lbytes, row);
-        let b = text::own::answer(right, rbytes, row);
+        let a = tableless::own::answer(left, lbytes, row);
+        let b = tableless::own::answer(right, rbytes, row);
         end = put_row(out, end, row, a, b);
         k += 1;
     }

@@ -23,7 +23,7 @@ use Rattle.format.specs.Parts.{Run, runOwners, blockRun, orElse, blockOwners, a
 use Rattle.explaining.specs.Bytes.{fitsAt}
 use Rattle.owning.specs.Bytes.{rowsOf}
 use Rattle.owning.proofs.Runs.{wide-run}
-use Rattle.text.specs.Own.{tableOf}
+use Rattle.tableless.specs.Own.{tableOf}
 use Rattle.bytewise.specs.Owners.{ownersIn, ownersFound, Few}
 
 and-right : (a b : Bool) → (a && b) ≡ true → b ≡ true

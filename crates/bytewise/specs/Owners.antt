@@ -8,7 +8,7 @@ use Rattle.format.specs.declared.Owners.the-variants.{Rows, NoRow}
 use Rattle.format.specs.Listing.{openedHere}
 use Rattle.format.specs.Outcome.{Outcome, Outcome.value, Outcome.refusal}
 use Rattle.owning.specs.Bytes.{rowsOf}
-use Rattle.text.specs.Own.{tableOf}
+use Rattle.tableless.specs.Own.{tableOf}
 
 -- the rows that were found to own a bit of a byte
 abbrev pub ownersIn : Outcome Owners → Owners

@@ -1,7 +1,7 @@
 // How many bytes differ, and how many rows they name.
 ghost use mathlib.Core.Path.{_≡_};
 ghost use Prim.Native.Nat.{_-_};
-ghost use Rattle.text.specs.Own.{Opens};
+ghost use Rattle.tableless.specs.Own.{Opens};
 ghost use Rattle.bytewise.specs.Owners.{ownersFound};
 ghost use Rattle.bytewise.specs.Tallies.{withByte, tallyFrom, tallied, Countable, Counted};
 use crate::fields::same_at;

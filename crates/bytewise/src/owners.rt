@@ -2,7 +2,7 @@
 ghost use mathlib.Core.Path.{_≡_};
 ghost use Rattle.format.specs.Listing.{openedHere};
 ghost use Rattle.owning.specs.Bytes.{rowsOf, rowsMeaning};
-ghost use Rattle.text.specs.Own.{tableOf, Opens};
+ghost use Rattle.tableless.specs.Own.{tableOf, Opens};
 ghost use Rattle.bytewise.specs.Owners.{ownersFound};
 use format::Column;
 use format::Owners;
@@ -13,10 +13,10 @@ fn rows_at(column: Column, bytes: &[u8], offset: usize) -> RowsRead
     requires { ⌜ Opens (now bytes) column ⌝ }
     ensures { λ r. ⌜ rowsMeaning r ≡ rowsOf (now (bytes .entry)) column (tableOf (openedHere (now (bytes .entry)))) offset ⌝ }
 {
-    let mut own = text::own::begin(bytes, column);
+    let mut own = tableless::own::begin(bytes, column);
     let mut search = owning::begin(column, bytes, offset);
     while 0 < search.left {
-        own = text::own::reach(own, bytes, 512 * (search.next as u32));
+        own = tableless::own::reach(own, bytes, 512 * (search.next as u32));
         let block = own.pass.block;
         search = owning::step(column, block, search);
     }

@@ -2,6 +2,11 @@
 ghost use Prim.Native.Nat.{_+_, _^_, _≤_, _<_};
 ghost use lib.ListN.{length};
 
+// Room for a file of cases, as long as they come.
+pub fn room() -> [u8; 524288] {
+    [0u8; 524288]
+}
+
 // Four bytes as a number, little end first.
 fn joined(a: u8, b: u8, c: u8, d: u8) -> usize
     ensures { λ r. ⌜ r < 2 ^ 32 ⌝ }

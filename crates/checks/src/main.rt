@@ -10,12 +10,16 @@ fn write_verdict(sheet: &[u8], bytes: &[u8], file: &[u8]) {
     io::write_all(STDOUT_FILENO, &line[..n]);
 }
 
+// Room for a file of values, and a byte more than is taken of it.
+fn values_room() -> [u8; 524289] {
+    [0u8; 524289]
+}
+
 fn main() {
     let mut sheet = io::buffer();
     let long = os::arg(1, &mut sheet);
-    // One byte more than is taken of each file, so that a longer one is told by its length.
-    let mut bytes = [0u8; 65537];
-    let mut file = [0u8; 524289];
+    let mut bytes = files::column_room();
+    let mut file = values_room();
     let n = files::read_named(2, &mut bytes);
     let m = files::read_named(3, &mut file);
     write_verdict(&sheet[..long], &bytes[..n], &file[..m]);

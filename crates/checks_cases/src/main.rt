@@ -51,7 +51,7 @@ fn show_all(file: &[u8]) {
 }
 
 fn main() {
-    let mut file = [0u8; 65536];
+    let mut file = cases::room();
     let n = files::read_named(1, &mut file);
     show_all(&file[..n]);
 }

@@ -2,10 +2,10 @@
 ghost use Prim.Native.Nat.{_≤_};
 ghost use lib.ListN.{length};
 ghost use Rattle.comparison.specs.Chunk.{pairMax};
-ghost use Rattle.text.specs.Own.{Owned};
+ghost use Rattle.tableless.specs.Own.{Owned};
 use comparison::Begun;
 use libc::STDOUT_FILENO;
-use text::own::Own;
+use tableless::own::Own;
 
 // How many lines were written, and whether every write went through.
 struct Lines {
@@ -26,8 +26,8 @@ fn write_rows(left: Own, lbytes: &[u8], right: Own, rbytes: &[u8], out: &mut [u8
     let mut from = 0;
     let mut count = 0;
     while from < rows {
-        l = text::own::reach(l, lbytes, from);
-        r = text::own::reach(r, rbytes, from);
+        l = tableless::own::reach(l, lbytes, from);
+        r = tableless::own::reach(r, rbytes, from);
         let took = comparison::fill_lines(l, lbytes, r, rbytes, from, out);
         let n = took.bytes;
         if !io::write_all(STDOUT_FILENO, &out[..n]) {
@@ -62,9 +62,8 @@ fn write_comparison(left: &[u8], right: &[u8]) {
 }
 
 fn main() {
-    // One byte more than a comparison takes on each side, so that a longer column is told by its length.
-    let mut left = [0u8; 65537];
-    let mut right = [0u8; 65537];
+    let mut left = files::column_room();
+    let mut right = files::column_room();
     let n = files::read_named(1, &mut left);
     let m = files::read_named(2, &mut right);
     write_comparison(&left[..n], &right[..m]);

@@ -2,12 +2,12 @@
 // be printed.
 ghost use Prim.Native.Nat.{_<_};
 ghost use lib.ListN.{length};
-ghost use Rattle.text.specs.Own.{Owned};
+ghost use Rattle.tableless.specs.Own.{Owned};
 use cases::length_at;
 use comparison::Begun;
 use comparison::Compared;
 use libc::STDOUT_FILENO;
-use text::own::Own;
+use tableless::own::Own;
 
 // Internal: asks for two columns, each opened of its bytes. Writes the lines of the rows from `from` on that differ for which a small buffer has room, and returns what was taken.
 fn show_rows(left: Own, lbytes: &[u8], right: Own, rbytes: &[u8], from: u32) -> Compared
@@ -70,7 +70,7 @@ fn show_all(file: &[u8]) {
 }
 
 fn main() {
-    let mut file = [0u8; 524288];
+    let mut file = cases::room();
     let n = files::read_named(1, &mut file);
     show_all(&file[..n]);
 }

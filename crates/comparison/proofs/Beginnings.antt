@@ -1,5 +1,6 @@
 -- How a comparison begins, from what both openings found and the line that was written.
 --     begun-left, begun-right      with the line of the side that does not open
+--     begun-on                     with the right side, where the left one opened
 --     begun-both                   with both columns
 --     begun-owned                  those are columns of their bytes, with passes over their blocks
 -- Assumes nothing.
@@ -19,54 +20,44 @@ use Rattle.format.specs.Listing.{ascii, namedLine, openedHere}
 use Rattle.format.specs.Opening.{Loaded, columnIn}
 use Rattle.format.specs.Outcome.{Outcome, Outcome.value, Outcome.refusal, Wrote}
 use Rattle.format.specs.Refusals.{openedMeaning}
-use Rattle.format.proofs.Outcomes.{not-value, value-same}
-use Rattle.text.specs.declared.own.Own.{Own}
-use Rattle.text.specs.Own.{ownFirst, Owned}
+use Rattle.tableless.specs.declared.own.Own.{Own}
+use Rattle.tableless.specs.Own.{ownFirst, Owned}
 use Rattle.text.specs.Refused.{refusedBy}
-use Rattle.text.proofs.Owns.{owned-first}
+use Rattle.tableless.proofs.Answered.{found-column, found-refusal}
+use Rattle.tableless.proofs.Owns.{owned-first}
 use Rattle.text.proofs.Texts.{counts}
+use Rattle.comparison.specs.declared.Begun.{Begun}
 use Rattle.comparison.specs.declared.Begun.the-variants.{Columns, Refused as BegunRefused}
-use Rattle.comparison.specs.Beginning.{begun, BegunAs}
+use Rattle.comparison.specs.Beginning.{begun, BegunAs, BegunOn}
 
-module _ {s t : List ℕ} {o p : Outcome Loaded} {r : Opened} {old : List ℕ} (l : openedMeaning r ≡ columnIn o) where
-  pub begun-left : {x : Refusal} {number n : ℕ} {new : List ℕ} → r ≡ Refused x → number ≡ refusedBy (openedMeaning r)
-      → Wrote old 0 (namedLine (ascii "left refused ") number) new n → Counts n new
-      → BegunAs s t o p (BegunRefused n) old new
-  begun-left {x} {number} {n} {new} is by wrote shown = go o l
-    where
-      go : (o : Outcome Loaded) → openedMeaning r ≡ columnIn o → BegunAs s t o p (BegunRefused n) old new
-      go (value c) f = absurd (not-value (sym (ap openedMeaning is) ∙ f))
-      go (refusal number′ also) f =
-          let same : number ≡ number′ = by ∙ ap refusedBy f in
-          let long : n ≡ length (namedLine (ascii "left refused ") number) = wrote .ends ∙ zero-add _ in
-          record { answer = cc; line = wrote .list ∙ rw same; counts = shown }
+module _ (s t : List ℕ) {r : Opened} {old : List ℕ} where
+  module _ (answer : openedMeaning r ≡ columnIn (openedHere s)) where
+    pub begun-left : {x : Refusal} {n : ℕ} {new : List ℕ} → r ≡ Refused x → Wrote old 0 (namedLine (ascii "left refused ") (refusedBy (openedMeaning r))) new n → Counts n new
+        → BegunAs s t (openedHere s) (openedHere t) (BegunRefused n) old new
+    begun-left is wrote shown =
+        rw (found-refusal s answer is .1)
+        (record { answer = ap BegunRefused (wrote .ends ∙ zero-add _); line = wrote .list; counts = shown })
 
-  module _ {q : Opened} (m : openedMeaning q ≡ columnIn p) {c : Column} {a : Spelling} (was : r ≡ OpenedColumn c a) where
-    pub begun-right : {x : Refusal} {number n : ℕ} {new : List ℕ} → q ≡ Refused x → number ≡ refusedBy (openedMeaning q)
-        → Wrote old 0 (namedLine (ascii "right refused ") number) new n → Counts n new
-        → BegunAs s t o p (BegunRefused n) old new
-    begun-right {x} {number} {n} {new} is by wrote shown = go o p l m
-      where
-        go : (o p : Outcome Loaded) → openedMeaning r ≡ columnIn o → openedMeaning q ≡ columnIn p → BegunAs s t o p (BegunRefused n) old new
-        go (refusal number′ also) p f g = absurd (not-value (sym f ∙ ap openedMeaning was))
-        go (value u) (value w) f g = absurd (not-value (sym (ap openedMeaning is) ∙ g))
-        go (value u) (refusal number′ also) f g =
-            let same : number ≡ number′ = by ∙ ap refusedBy g in
-            let long : n ≡ length (namedLine (ascii "right refused ") number) = wrote .ends ∙ zero-add _ in
-            record { answer = cc; line = wrote .list ∙ rw same; counts = shown }
+    pub begun-on : {c : Column} {a : Spelling} {b : Begun} {new : List ℕ} → r ≡ OpenedColumn c a → BegunOn s t c (openedHere t) b old new
+        → BegunAs s t (openedHere s) (openedHere t) b old new
+    begun-on is right = let e = found-column s answer is in
+        rw (e .opened) (right (e .found) (e .column))
 
-    pub begun-both : {d : Column} {b : Spelling} {own its : Own} → q ≡ OpenedColumn d b → own ≡ ownFirst s c → its ≡ ownFirst t d → BegunAs s t o p (Columns own its) old old
-    begun-both {d} {b} {own} {its} is left right = go o p l m
-      where
-        go : (o p : Outcome Loaded) → openedMeaning r ≡ columnIn o → openedMeaning q ≡ columnIn p → BegunAs s t o p (Columns own its) old old
-        go (refusal number′ also) p f g = absurd (not-value (sym f ∙ ap openedMeaning was))
-        go (value u) (refusal number′ also) f g = absurd (not-value (sym g ∙ ap openedMeaning is))
-        go (value u) (value w) f g =
-            let same : c ≡ u .column = ap (λ (a : Column × Spelling). a .0) (value-same (sym (ap openedMeaning was) ∙ f)) in
-            let also : d ≡ w .column = ap (λ (a : Column × Spelling). a .0) (value-same (sym (ap openedMeaning is) ∙ g)) in
-            let one : own ≡ ownFirst s (u .column) = left ∙ ap (ownFirst s) same in
-            let other : its ≡ ownFirst t (w .column) = right ∙ ap (ownFirst t) also in
-            record { answer = ap (λ (x : Own). Columns x its) one ∙ ap (Columns (ownFirst s (u .column))) other; line = refl; counts = counts 0 old (omega arith) }
+  module _ (answer : openedMeaning r ≡ columnIn (openedHere t)) where
+    pub begun-right : {x : Refusal} {n : ℕ} {new : List ℕ} {c : Column} → r ≡ Refused x → Wrote old 0 (namedLine (ascii "right refused ") (refusedBy (openedMeaning r))) new n → Counts n new
+        → BegunOn s t c (openedHere t) (BegunRefused n) old new
+    begun-right is wrote shown o same =
+        rw (found-refusal t answer is .1)
+        (record { answer = ap BegunRefused (wrote .ends ∙ zero-add _); line = wrote .list; counts = shown })
+
+    pub begun-both : {c d : Column} {a : Spelling} {own its : Own} → r ≡ OpenedColumn d a → own ≡ ownFirst s c → its ≡ ownFirst t d
+        → BegunOn s t c (openedHere t) (Columns own its) old old
+    begun-both {c} {d} {a} {own} {its} is left right o same =
+        let e = found-column t answer is in
+        let one : own ≡ ownFirst s (o .column) = left ∙ ap (ownFirst s) (sym same) in
+        let other : its ≡ ownFirst t (e .found .column) = right ∙ ap (ownFirst t) (sym (e .column)) in
+        rw (e .opened)
+        (record { answer = ap (λ (x : Own). Columns x its) one ∙ ap (Columns (ownFirst s (o .column))) other; line = refl; counts = counts 0 old (omega arith) })
 
 -- the columns that it begins with are those of their bytes
 pub begun-owned : {s t : List ℕ} {own its : Own} {old new : List ℕ} → BegunAs s t (openedHere s) (openedHere t) (Columns own its) old new

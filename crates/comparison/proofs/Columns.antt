@@ -23,10 +23,10 @@ use Rattle.format.proofs.Laid.{opened-laid}
 use Rattle.format.proofs.Lists.{below-or}
 use Rattle.format.proofs.Rows.{row-answers, ValueOr14, value-or-14}
 use Rattle.text.specs.Chunk.{chunks}
-use Rattle.text.specs.Own.{ownRow}
+use Rattle.tableless.specs.Own.{ownRow}
 use Rattle.text.proofs.Chunks.{chunk-within}
-use Rattle.text.proofs.Limits.{here-opened}
-use Rattle.text.proofs.Rows.{here-rows, here-lacking, own-reads, own-sayable}
+use Rattle.tableless.proofs.Limits.{here-opened}
+use Rattle.tableless.proofs.Rows.{here-rows, here-lacking, own-reads, own-sayable}
 use Rattle.comparison.specs.Beginning.{onlyLine}
 use Rattle.comparison.specs.Chunk.{pairMax, textOf, pairChunk, lineCounts}
 use Rattle.comparison.proofs.RowLines.{text-most}

@@ -9,7 +9,7 @@ use lib.Seq.{sets}
 use Rattle.format.specs.declared.Column.{Column}
 use Rattle.format.specs.Listing.{ascii, namedLine, openedHere}
 use Rattle.format.specs.Outcome.{Wrote}
-use Rattle.text.specs.Own.{ownRow}
+use Rattle.tableless.specs.Own.{ownRow}
 use Rattle.comparison.specs.declared.Begun.{Begun}
 use Rattle.comparison.specs.declared.Compared.{Compared}
 use Rattle.comparison.specs.Beginning.{BegunAs}

@@ -6,10 +6,11 @@ use mathlib.Core.List.{List, []}
 use lib.ListN.{length}
 use lib.Seq.{sets}
 use Rattle.io.specs.Counts.{Counts}
+use Rattle.format.specs.declared.Column.{Column}
 use Rattle.format.specs.Listing.{ascii, namedLine}
 use Rattle.format.specs.Opening.{Loaded}
 use Rattle.format.specs.Outcome.{Outcome, Outcome.value, Outcome.refusal}
-use Rattle.text.specs.Own.{ownFirst}
+use Rattle.tableless.specs.Own.{ownFirst}
 use Rattle.comparison.specs.declared.Begun.{Begun}
 use Rattle.comparison.specs.declared.Begun.the-variants.{Columns, Refused}
 
@@ -35,3 +36,7 @@ pub record BegunAs (s t : List ℕ) (left right : Outcome Loaded) (r : Begun) (o
   pub answer : r ≡ begun s t left right
   pub line : new ≡ sets old 0 (onlyLine left right)
   pub counts : Counts (lineLength r) new
+
+-- the same where the left side was opened, by its column
+abbrev pub BegunOn : (s t : List ℕ) → Column → (right : Outcome Loaded) (r : Begun) (old new : List ℕ) → Type 0
+BegunOn s t c right r old new = (o : Loaded) → o .column ≡ c → BegunAs s t (value o) right r old new

@@ -10,16 +10,16 @@ ghost use lib.Seq.{sets};
 ghost use Rattle.io.specs.Counts.{Counts};
 ghost use Rattle.format.specs.Listing.{ascii, namedLine, openedHere};
 ghost use Rattle.format.specs.Outcome.{Wrote};
-ghost use Rattle.comparison.specs.Beginning.{BegunAs};
+ghost use Rattle.comparison.specs.Beginning.{BegunAs, BegunOn};
 ghost use Rattle.comparison.specs.Chunk.{pairChunk, comparedIn};
-ghost use Rattle.text.specs.Own.{ownRow, Owned};
+ghost use Rattle.tableless.specs.Own.{ownRow, Owned};
 use format::Column;
 use format::Opened;
 use lines::Done;
+use tableless::opening;
+use tableless::own::Own;
 use text::lines::named_line;
-use text::lines::refusal_number;
-use text::opening;
-use text::own::Own;
+use text::lines::refused_line;
 
 // The longest line of a row.
 const LINE_MAX: usize = 53;
@@ -37,6 +37,19 @@ pub struct Compared {
     pub bytes: usize,
 }
 
+// Goes on with the right side, where the left one opened.
+fn begin_right(column: Column, left: &[u8], right: &[u8], line: &mut [u8; 128]) -> Begun
+    ensures { λ r. ⌜ BegunOn (now (left .entry)) (now (right .entry)) column (openedHere (now (right .entry))) r (now (line .entry)) (now (line .exit)) ⌝ }
+{
+    let opened = opening::open_plain(right);
+    let Opened::Column(against, _) = opened else {
+        return Begun::Refused(refused_line(b"right refused ", opened, line));
+    };
+    let own = tableless::own::begin(left, column);
+    let its = tableless::own::begin(right, against);
+    Begun::Columns(own, its)
+}
+
 // Begins a comparison: opens both sides within a program's limits. Where a side is refused, the left one before the right, the line that says so, the only one then, is written at
 // the start of the lent one.
 pub fn begin(left: &[u8], right: &[u8], line: &mut [u8; 128]) -> Begun
@@ -44,17 +57,9 @@ pub fn begin(left: &[u8], right: &[u8], line: &mut [u8; 128]) -> Begun
 {
     let opened = opening::open_plain(left);
     let Opened::Column(column, _) = opened else {
-        let number = refusal_number(opened) as u64;
-        return Begun::Refused(named_line(b"left refused ", number, line));
+        return Begun::Refused(refused_line(b"left refused ", opened, line));
     };
-    let other = opening::open_plain(right);
-    let Opened::Column(against, _) = other else {
-        let number = refusal_number(other) as u64;
-        return Begun::Refused(named_line(b"right refused ", number, line));
-    };
-    let own = text::own::begin(left, column);
-    let its = text::own::begin(right, against);
-    Begun::Columns(own, its)
+    begin_right(column, left, right, line)
 }
 
 // The rows that a comparison looks at: those of the window that has more.
@@ -88,22 +93,18 @@ pub fn fill_lines(
     let rows = row_count(column, against);
     let mut lvalues = [0u64; 512];
     let mut rvalues = [0u64; 512];
-    let mut lheld = text::held::nothing(left.pass);
-    let mut rheld = text::held::nothing(right.pass);
+    let mut lheld = tableless::held::nothing(left.pass);
+    let mut rheld = tableless::held::nothing(right.pass);
     let mut r = from;
     let mut done = Done { lines: 0, bytes: 0 };
     while r < rows {
         if out.len() - done.bytes < LINE_MAX {
             break;
         }
-        if lheld.block != r / 512 {
-            lheld = text::held::hold(column, lbytes, r, lheld, &mut lvalues);
-        }
-        if rheld.block != r / 512 {
-            rheld = text::held::hold(against, rbytes, r, rheld, &mut rvalues);
-        }
-        let a = text::held::answer(column, lbytes, r, lheld, &lvalues);
-        let b = text::held::answer(against, rbytes, r, rheld, &rvalues);
+        lheld = tableless::held::hold(column, lbytes, r, lheld, &mut lvalues);
+        rheld = tableless::held::hold(against, rbytes, r, rheld, &mut rvalues);
+        let a = tableless::held::answer(column, lbytes, r, lheld, &lvalues);
+        let b = tableless::held::answer(against, rbytes, r, rheld, &rvalues);
         done = lines::put_row(out, done, r, a, b);
         r += 1;
     }

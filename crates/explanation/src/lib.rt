@@ -38,7 +38,7 @@ pub struct Told {
 pub fn begin(bytes: &[u8], line: &mut [u8; 128]) -> Begun
     ensures { λ r. ⌜ BegunAs (openedHere (now (bytes .entry))) r (now (line .entry)) (now (line .exit)) ⌝ }
 {
-    let opened = text::opening::open_plain(bytes);
+    let opened = tableless::opening::open_plain(bytes);
     let Opened::Column(column, _) = opened else {
         let number = refusal_number(opened) as u64;
         return Begun::Refused(named_line(b"refused ", number, line));

@@ -1,6 +1,12 @@
 // Files that a program's arguments name.
 ghost use Rattle.io.specs.Counts.{Counts};
 
+// Room for a column, and a byte more than a program takes of it, so that a longer one is told by its length. A function of its own: what calls it need not carry the
+// array's entries through its proof.
+pub fn column_room() -> [u8; 65537] {
+    [0u8; 65537]
+}
+
 // Reads the file that an argument names, as far as there is room, and returns how many bytes it has there. One that cannot be opened, or read to its end,
 // has none; so has a missing argument, whose name is empty.
 pub fn read_named(argument: usize, bytes: &mut [u8]) -> usize

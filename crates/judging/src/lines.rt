@@ -1,16 +1,13 @@
 // The lines of a check.
-ghost use mathlib.Core.List.{_++_};
 ghost use Prim.Native.Nat.{_≤_};
 ghost use lib.ListN.{length};
 ghost use Rattle.io.specs.Counts.{Counts};
-ghost use Rattle.format.specs.Listing.{ascii, named, namedLine};
 ghost use Rattle.format.specs.Outcome.{Wrote};
 ghost use Rattle.format.specs.Refusals.{checkedMeaning};
 ghost use Rattle.judging.specs.Verdicts.{verdictLine};
 use format::Checked;
 use text::lines::named_line;
-use text::put::put_byte;
-use text::put::put_named;
+use text::lines::pair_line;
 use text::put::put_text;
 
 // Internal: asks for a text that has room. Writes it at the start of a line, and returns its length.
@@ -20,16 +17,6 @@ fn text_line(text: &[u8], line: &mut [u8; 128]) -> usize
     ensures { λ r. ⌜ Counts r (now (line .exit)) ⌝ }
 {
     put_text(line, 0, text)
-}
-
-// Writes the line of counts that differ, and returns its length.
-fn counts_line(column: u32, list: usize, line: &mut [u8; 128]) -> usize
-    ensures { λ r. ⌜ Wrote (now (line .entry)) 0 (named (ascii "no rows ") column ++ namedLine (ascii " values ") list) (now (line .exit)) r ⌝ }
-    ensures { λ r. ⌜ Counts r (now (line .exit)) ⌝ }
-{
-    let behind = put_named(line, 0, b"no rows ", column as u64);
-    let end = put_named(line, behind, b" values ", list as u64);
-    put_byte(line, end, b'\n')
 }
 
 // Writes a verdict at the start of a line, and returns its length.
@@ -42,7 +29,9 @@ pub(crate) fn verdict_line(checked: Checked, line: &mut [u8; 128]) -> usize
         Checked::Unopened(refusal) => {
             named_line(b"no column refused ", refusal.number() as u64, line)
         }
-        Checked::Counts { column, list } => counts_line(column, list, line),
+        Checked::Counts { column, list } => {
+            pair_line(b"no rows ", column as u64, b" values ", list as u64, line)
+        }
         Checked::Unequal { row } => named_line(b"no row ", row as u64, line),
         Checked::Minimum => text_line(b"no minimum\n", line),
         Checked::Gcd => text_line(b"no gcd\n", line),

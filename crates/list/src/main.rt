@@ -2,11 +2,11 @@
 ghost use Prim.Native.Nat.{_≤_};
 ghost use lib.ListN.{length};
 ghost use Rattle.listing.specs.Chunk.{lineMax};
-ghost use Rattle.text.specs.Own.{Owned};
+ghost use Rattle.tableless.specs.Own.{Owned};
 use libc::STDIN_FILENO;
 use libc::STDOUT_FILENO;
 use listing::Begun;
-use text::own::Own;
+use tableless::own::Own;
 
 // Internal: asks for a column that was opened of these bytes, and for a buffer that has room for a longest line, so that each turn writes a row at least. Writes the lines of all rows,
 // a bufferful at a time, and says whether every write went through.
@@ -18,7 +18,7 @@ fn write_rows(own: Own, bytes: &[u8], out: &mut [u8]) -> bool
     let mut at = own;
     let mut from = 0;
     while from < column.rows {
-        at = text::own::reach(at, bytes, from);
+        at = tableless::own::reach(at, bytes, from);
         let took = listing::fill_lines(at, bytes, from, out);
         let n = took.bytes;
         if !io::write_all(STDOUT_FILENO, &out[..n]) {
@@ -51,8 +51,7 @@ fn write_listing(bytes: &[u8]) {
 }
 
 fn main() {
-    // One byte more than a listing takes, so that a longer column is told by its length.
-    let mut bytes = [0u8; 65537];
+    let mut bytes = files::column_room();
     let n = io::read_full(STDIN_FILENO, &mut bytes);
     write_listing(&bytes[..n]);
 }

@@ -19,10 +19,10 @@ use Rattle.format.specs.Opening.{Loaded, columnIn}
 use Rattle.format.specs.Outcome.{Outcome, Outcome.value, Outcome.refusal, Wrote}
 use Rattle.format.specs.Refusals.{openedMeaning}
 use Rattle.format.proofs.Outcomes.{not-value, value-same}
-use Rattle.text.specs.declared.own.Own.{Own}
-use Rattle.text.specs.Own.{ownFirst, Owned}
+use Rattle.tableless.specs.declared.own.Own.{Own}
+use Rattle.tableless.specs.Own.{ownFirst, Owned}
 use Rattle.text.specs.Refused.{refusedBy}
-use Rattle.text.proofs.Owns.{owned-first}
+use Rattle.tableless.proofs.Owns.{owned-first}
 use Rattle.listing.specs.declared.Begun.the-variants.{Column as BegunColumn, Refused as BegunRefused}
 use Rattle.listing.specs.Beginning.{columnLine, begun, BegunAs}
 

@@ -11,7 +11,7 @@ use Rattle.format.specs.Listing.{ascii, namedLine, rowLine, openedHere}
 use Rattle.format.specs.Outcome.{Wrote}
 use Rattle.text.specs.declared.Filled.{Filled}
 use Rattle.text.specs.Chunk.{chunk, filled}
-use Rattle.text.specs.Own.{ownRow}
+use Rattle.tableless.specs.Own.{ownRow}
 use Rattle.listing.specs.declared.Begun.{Begun}
 use Rattle.listing.specs.Beginning.{BegunAs}
 use Rattle.listing.specs.Chunk.{lineMax}

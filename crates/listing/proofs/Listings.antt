@@ -13,10 +13,10 @@ use Rattle.format.specs.Opening.{Loaded}
 use Rattle.format.specs.Listing.{ascii, namedLine, rowLine, rowLines, openedHere, listed, listedOr, listing}
 use Rattle.format.proofs.Laid.{opened-laid}
 use Rattle.text.specs.Chunk.{chunk, chunks}
-use Rattle.text.specs.Own.{ownRow}
+use Rattle.tableless.specs.Own.{ownRow}
 use Rattle.text.proofs.Chunks.{chunk-within, chunks-all}
-use Rattle.text.proofs.Limits.{here-opened}
-use Rattle.text.proofs.Rows.{own-reads, own-sayable}
+use Rattle.tableless.proofs.Limits.{here-opened}
+use Rattle.tableless.proofs.Rows.{own-reads, own-sayable}
 use Rattle.listing.specs.Beginning.{columnLine, firstLine}
 use Rattle.listing.specs.Chunk.{lineMax}
 use Rattle.listing.proofs.RowLines.{row-most}

@@ -10,7 +10,7 @@ use Rattle.format.specs.declared.Column.{Column}
 use Rattle.format.specs.Listing.{ascii, namedLine, headLine, codeOf}
 use Rattle.format.specs.Opening.{Loaded}
 use Rattle.format.specs.Outcome.{Outcome, Outcome.value, Outcome.refusal}
-use Rattle.text.specs.Own.{ownFirst}
+use Rattle.tableless.specs.Own.{ownFirst}
 use Rattle.listing.specs.declared.Begun.{Begun}
 use Rattle.listing.specs.declared.Begun.the-variants.{Column as BegunColumn, Refused}
 

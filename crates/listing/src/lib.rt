@@ -11,13 +11,13 @@ ghost use Rattle.format.specs.Outcome.{Wrote};
 ghost use Rattle.listing.specs.Beginning.{BegunAs};
 ghost use Rattle.listing.specs.Chunk.{lineMax};
 ghost use Rattle.text.specs.Chunk.{chunk, filled};
-ghost use Rattle.text.specs.Own.{ownRow, Owned};
+ghost use Rattle.tableless.specs.Own.{ownRow, Owned};
 use format::Column;
 use format::Opened;
+use tableless::own::Own;
 use text::Filled;
 use text::lines::named_line;
 use text::lines::refusal_number;
-use text::own::Own;
 
 // The longest line of a row.
 const LINE_MAX: usize = 32;
@@ -32,12 +32,12 @@ pub enum Begun {
 pub fn begin(bytes: &[u8], line: &mut [u8; 128]) -> Begun
     ensures { λ r. ⌜ BegunAs (now (bytes .entry)) (openedHere (now (bytes .entry))) r (now (line .entry)) (now (line .exit)) ⌝ }
 {
-    let opened = text::opening::open_plain(bytes);
+    let opened = tableless::opening::open_plain(bytes);
     let Opened::Column(column, _) = opened else {
         let number = refusal_number(opened);
         return Begun::Refused(number, lines::refused_line(number, line));
     };
-    let own = text::own::begin(bytes, column);
+    let own = tableless::own::begin(bytes, column);
     let codec = column.codec;
     let max = column.minimum + column.gcd * column.count;
     Begun::Column(
@@ -63,17 +63,15 @@ pub fn fill_lines(own: Own, bytes: &[u8], from: u32, out: &mut [u8]) -> Filled
 {
     let column = own.column;
     let mut values = [0u64; 512];
-    let mut held = text::held::nothing(own.pass);
+    let mut held = tableless::held::nothing(own.pass);
     let mut r = from;
     let mut at = 0;
     while r < column.rows {
         if out.len() - at < LINE_MAX {
             break;
         }
-        if held.block != r / 512 {
-            held = text::held::hold(column, bytes, r, held, &mut values);
-        }
-        let answer = text::held::answer(column, bytes, r, held, &values);
+        held = tableless::held::hold(column, bytes, r, held, &mut values);
+        let answer = tableless::held::answer(column, bytes, r, held, &values);
         at = lines::put_row(out, at, r, answer);
         r += 1;
     }

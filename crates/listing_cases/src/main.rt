@@ -1,11 +1,11 @@
 // Lists the columns of a file of cases, each below its title, through the calls that `list` makes. tools/answers/shown.py wrote the file, and says what has to be printed.
 ghost use Prim.Native.Nat.{_<_};
 ghost use lib.ListN.{length};
-ghost use Rattle.text.specs.Own.{Owned};
+ghost use Rattle.tableless.specs.Own.{Owned};
 use cases::length_at;
 use libc::STDOUT_FILENO;
 use listing::Begun;
-use text::own::Own;
+use tableless::own::Own;
 
 // Internal: asks for a column that was opened of these bytes. Writes the lines of the rows from `from` on for which a small buffer has room, and returns how many rows they are.
 fn show_rows(own: Own, bytes: &[u8], from: u32) -> u32
@@ -66,7 +66,7 @@ fn show_all(file: &[u8]) {
 }
 
 fn main() {
-    let mut file = [0u8; 131072];
+    let mut file = cases::room();
     let n = files::read_named(1, &mut file);
     show_all(&file[..n]);
 }

@@ -9,10 +9,14 @@ fn write_report(bytes: &[u8], recording: &[u8]) {
     io::write_all(STDOUT_FILENO, &line[..n]);
 }
 
+// Room for a recording, and a byte more than is taken of it.
+fn recording_room() -> [u8; 262145] {
+    [0u8; 262145]
+}
+
 fn main() {
-    // One byte more than a report takes of each, so that a longer file is told by its length.
-    let mut bytes = [0u8; 65537];
-    let mut recording = [0u8; 262145];
+    let mut bytes = files::column_room();
+    let mut recording = recording_room();
     let n = files::read_named(1, &mut bytes);
     let m = files::read_named(2, &mut recording);
     write_report(&bytes[..n], &recording[..m]);

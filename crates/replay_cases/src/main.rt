@@ -48,7 +48,7 @@ fn show_all(file: &[u8]) {
 }
 
 fn main() {
-    let mut file = [0u8; 16384];
+    let mut file = cases::room();
     let n = files::read_named(1, &mut file);
     show_all(&file[..n]);
 }

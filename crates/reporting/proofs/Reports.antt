@@ -1,5 +1,4 @@
 -- A replay's line, from what opening answered and what was written.
---     found-column         a column in the answer was opened of the bytes
 --     reported-column      a column that does not open
 --     reported-long        a recording of too many bytes
 --     reported-run         a replay
@@ -17,13 +16,13 @@ use Rattle.format.specs.declared.Replayed.{Replayed}
 use Rattle.format.specs.declared.Spelling.{Spelling}
 use Rattle.format.specs.Listing.{ascii, namedLine, openedHere}
 use Rattle.format.specs.Opening.{Loaded, columnIn}
-use Rattle.format.specs.Outcome.{Outcome, Outcome.value, Outcome.refusal, Wrote}
+use Rattle.format.specs.Outcome.{Outcome, Wrote}
 use Rattle.format.specs.Refusals.{openedMeaning, replayedMeaning}
 use Rattle.format.specs.Replaying.{replayed}
-use Rattle.format.proofs.Outcomes.{not-value, value-same}
-use Rattle.text.specs.Own.{ownRow, Opens}
 use Rattle.text.specs.Refused.{refusedBy}
-use Rattle.text.proofs.Rows.{own-reads}
+use Rattle.tableless.specs.Own.{ownRow}
+use Rattle.tableless.proofs.Answered.{found-column, found-refusal}
+use Rattle.tableless.proofs.Rows.{own-reads}
 use Rattle.reporting.specs.Report.{reportLine, replayedHere, reportOr, report}
 
 -- replaying within the limit, and beyond it
@@ -40,21 +39,10 @@ by-line : (s recording : List ℕ) {line : List ℕ} {n : ℕ} {old new : List �
 unfolding report
 by-line s recording {line} {n} {old} {new} is wrote = subst (λ (l : List ℕ). Wrote old 0 l new n) is wrote
 
-pub found-column : (s : List ℕ) {r : Opened} {c : Column} {p : Spelling} → openedMeaning r ≡ columnIn (openedHere s) → r ≡ OpenedColumn c p → Opens s c
-found-column s {r} {c} {p} answer is = go (openedHere s) refl (sym (ap openedMeaning is) ∙ answer)
-  where
-    go : (o : Outcome Loaded) → openedHere s ≡ o → openedMeaning (OpenedColumn c p) ≡ columnIn o → Opens s c
-    go (value l) e f = record { found = l; opened = e; column = sym (ap (λ (x : Column × Spelling). x .0) (value-same f)) }
-    go (refusal number also) e f = absurd (not-value (sym f))
-
 module _ (s recording : List ℕ) {r : Opened} (answer : openedMeaning r ≡ columnIn (openedHere s)) where
-  pub reported-column : {x : Refusal} {number n : ℕ} {old new : List ℕ} → r ≡ Refused x → number ≡ refusedBy (openedMeaning r) → Wrote old 0 (namedLine (ascii "column refused ") number) new n
+  pub reported-column : {x : Refusal} {n : ℕ} {old new : List ℕ} → r ≡ Refused x → Wrote old 0 (namedLine (ascii "column refused ") (refusedBy (openedMeaning r))) new n
       → Wrote old 0 (report s recording) new n
-  reported-column {x} {number} is by wrote = by-line s recording (go (openedHere s) answer) wrote
-    where
-      go : (o : Outcome Loaded) → openedMeaning r ≡ columnIn o → namedLine (ascii "column refused ") number ≡ reportOr o s recording
-      go (value l) f = absurd (not-value (sym (ap openedMeaning is) ∙ f))
-      go (refusal number′ also) f = ap (namedLine (ascii "column refused ")) (by ∙ ap refusedBy f)
+  reported-column is = by-line s recording (sym (ap (λ (o : Outcome Loaded). reportOr o s recording) (found-refusal s answer is .1)))
 
   module _ {c : Column} {p : Spelling} (is : r ≡ OpenedColumn c p) where
     -- the line of the column that was opened

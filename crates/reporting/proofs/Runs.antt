@@ -16,9 +16,9 @@ use Rattle.format.specs.Reading.{columnRow, blockAt, rowAt}
 use Rattle.replaying.specs.declared.walking.Walk.{Walk}
 use Rattle.replaying.specs.Walking.{Replaying}
 use Rattle.replaying.proofs.Walks.{is-on-hand}
-use Rattle.text.specs.declared.own.Own.{Own}
-use Rattle.text.specs.Own.{tableOf, ownRow, blockRows, ownFirst, ownAt, Opens, Owned}
-use Rattle.text.proofs.Owns.{own-few, own-count, own-blocks, own-block, owned-first, owned-at, same-row}
+use Rattle.tableless.specs.declared.own.Own.{Own}
+use Rattle.tableless.specs.Own.{tableOf, ownRow, blockRows, ownFirst, ownAt, Opens, Owned}
+use Rattle.tableless.proofs.Owns.{own-few, own-count, own-blocks, own-block, owned-first, owned-at, same-row}
 
 -- the column with a pass over its blocks, and a replay under way by the opening's own blocks
 pub record Running (s : List ℕ) (c : Column) (recording : List ℕ) (own : Own) (w : Walk) : Type 0 where

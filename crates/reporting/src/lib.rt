@@ -8,7 +8,7 @@ ghost use Rattle.format.specs.Outcome.{Wrote};
 ghost use Rattle.reporting.specs.Report.{report as told};
 use format::Opened;
 use text::lines::named_line;
-use text::lines::refusal_number;
+use text::lines::refused_line;
 
 // The most bytes of a recording that a program takes.
 const RECORDING_MAX: usize = 262144;
@@ -19,10 +19,9 @@ pub fn report(bytes: &[u8], recording: &[u8], line: &mut [u8; 128]) -> usize
     ensures { λ r. ⌜ Wrote (now (line .entry)) 0 (told (now (bytes .entry)) (now (recording .entry))) (now (line .exit)) r ⌝ }
     ensures { λ r. ⌜ Counts r (now (line .exit)) ⌝ }
 {
-    let opened = text::opening::open_plain(bytes);
+    let opened = tableless::opening::open_plain(bytes);
     let Opened::Column(column, _) = opened else {
-        let number = refusal_number(opened) as u64;
-        return named_line(b"column refused ", number, line);
+        return refused_line(b"column refused ", opened, line);
     };
     if RECORDING_MAX < recording.len() {
         return named_line(b"recording refused ", 16, line);

@@ -2,7 +2,7 @@
 ghost use mathlib.Core.Path.{_≡_};
 ghost use Rattle.format.specs.Refusals.{replayedMeaning};
 ghost use Rattle.format.specs.Replaying.{replayed};
-ghost use Rattle.text.specs.Own.{ownRow, Opens};
+ghost use Rattle.tableless.specs.Own.{ownRow, Opens};
 use format::Column;
 use format::Replayed;
 
@@ -12,11 +12,11 @@ pub(crate) fn replay(column: Column, bytes: &[u8], recording: &[u8]) -> Replayed
     requires { ⌜ Opens (now bytes) column ⌝ }
     ensures { λ r. ⌜ replayedMeaning r ≡ replayed (ownRow column (now (bytes .entry))) (column .window .rows) (now (recording .entry)) ⌝ }
 {
-    let blocks = text::own::block_count(column);
-    let mut own = text::own::begin(bytes, column);
+    let blocks = tableless::own::block_count(column);
+    let mut own = tableless::own::begin(bytes, column);
     let mut w = replaying::walking::begin(column.window.rows, recording);
     while w.going {
-        own = text::own::reach(own, bytes, w.at);
+        own = tableless::own::reach(own, bytes, w.at);
         let block = own.pass.block;
         w = replaying::walking::step(column, blocks, block, bytes, recording, w);
     }

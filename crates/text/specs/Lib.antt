@@ -1,4 +1,2 @@
 pub mod Chunk
-pub mod Holding
-pub mod Own
 pub mod Refused

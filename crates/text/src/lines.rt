@@ -1,11 +1,12 @@
 // Lines and answers as text, and the number of a refused opening.
 ghost use mathlib.Core.Path.{_≡_};
 ghost use Prim.Native.Nat.{_+_, _≤_};
+ghost use mathlib.Core.List.{_++_};
 ghost use lib.ListN.{length};
 ghost use Rattle.io.specs.Counts.{Counts};
 ghost use Rattle.format.specs.Outcome.{Wrote};
 ghost use Rattle.format.specs.Refusals.{openedMeaning, rowMeaning};
-ghost use Rattle.format.specs.Listing.{namedLine, answerText};
+ghost use Rattle.format.specs.Listing.{named, namedLine, answerText};
 ghost use Rattle.text.specs.Refused.{refusedBy};
 use crate::put::put_byte;
 use crate::put::put_decimal;
@@ -31,6 +32,26 @@ pub fn named_line(name: &[u8], n: u64, out: &mut [u8; 128]) -> usize
 {
     let at = put_named(out, 0, name, n);
     put_byte(out, at, b'\n')
+}
+
+// Internal: asks for a name of at most a hundred bytes. Writes a name and the number of a refused opening as a line, and returns its length.
+pub fn refused_line(name: &[u8], opened: Opened, out: &mut [u8; 128]) -> usize
+    requires { ⌜ length (now name) ≤ 100 ⌝ }
+    ensures { λ r. ⌜ Wrote (now (out .entry)) 0 (namedLine (now (name .entry)) (refusedBy (openedMeaning opened))) (now (out .exit)) r ⌝ }
+    ensures { λ r. ⌜ Counts r (now (out .exit)) ⌝ }
+{
+    named_line(name, refusal_number(opened) as u64, out)
+}
+
+// Internal: asks for names of at most forty bytes, so that the line has room. Writes two names, each with a number, as a line, and returns its length.
+pub fn pair_line(first: &[u8], n: u64, second: &[u8], m: u64, out: &mut [u8; 128]) -> usize
+    requires { ⌜ (length (now first) ≤ 40) × (length (now second) ≤ 40) ⌝ }
+    ensures { λ r. ⌜ Wrote (now (out .entry)) 0 (named (now (first .entry)) n ++ namedLine (now (second .entry)) m) (now (out .exit)) r ⌝ }
+    ensures { λ r. ⌜ Counts r (now (out .exit)) ⌝ }
+{
+    let behind = put_named(out, 0, first, n);
+    let end = put_named(out, behind, second, m);
+    put_byte(out, end, b'\n')
 }
 
 // Internal: asks for room of twenty bytes, and no answer takes more. Writes what a row answers, and returns the offset behind it.

@@ -5,9 +5,9 @@ use mathlib.Core.Path.{_≡_, refl, sym, ap, _∙_, subst}
 use native.Mathlib.Omega.{arith}
 use lib.ListN.{length}
 use denote.Ref.{now}
-use Rattle.text.specs.declared.own.Own.{Own}
-use Rattle.text.specs.Own.{ownRow, Owned}
-use Rattle.text.proofs.Owns.{owned-at}
+use Rattle.tableless.specs.declared.own.Own.{Own}
+use Rattle.tableless.specs.Own.{ownRow, Owned}
+use Rattle.tableless.proofs.Owns.{owned-at}
 use Rattle.comparison.specs.Chunk.{pairMax}
 use Rattle.comparison.proofs.Filling.{Paired, paired}
 use Rattle.compare.proofs.write_rows.Statement.{statement}

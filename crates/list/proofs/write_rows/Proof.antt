@@ -7,11 +7,11 @@ use lib.ListN.{length}
 use denote.Ref.{now}
 use Rattle.format.specs.declared.Column.{Column}
 use Rattle.listing.specs.Chunk.{lineMax}
-use Rattle.text.specs.declared.own.Own.{Own}
+use Rattle.tableless.specs.declared.own.Own.{Own}
 use Rattle.text.specs.declared.Filled.{Filled}
-use Rattle.text.specs.Own.{Owned}
+use Rattle.tableless.specs.Own.{Owned}
 use Rattle.text.proofs.Chunks.{Took, took}
-use Rattle.text.proofs.Owns.{owned-at}
+use Rattle.tableless.proofs.Owns.{owned-at}
 use Rattle.list.proofs.write_rows.Statement.{statement}
 use Rattle.list.proofs.write_rows.Tie as tie
 

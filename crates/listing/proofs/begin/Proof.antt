@@ -5,7 +5,7 @@ use Prim.Native.Nat.{_+_, _*_, _^_, _<_}
 use Rattle.format.specs.Refusals.{openedMeaning}
 use Rattle.format.proofs.Outcomes.{told}
 use native.Mathlib.Omega.{arith}
-use Rattle.text.proofs.Limits.{here-bounds}
+use Rattle.tableless.proofs.Limits.{here-bounds}
 use Rattle.listing.proofs.Beginnings.{begun-refused, begun-column}
 use Rattle.listing.proofs.begin.Statement.{statement}
 use Rattle.listing.proofs.begin.Tie as tie

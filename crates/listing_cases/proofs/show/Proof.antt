@@ -4,7 +4,7 @@ use Rattle.io.specs.Counts.{Counts}
 use denote.Ref.{now}
 use borrow.Author.Needs.{needs}
 use Rattle.listing.proofs.Beginnings.{begun-owned}
-use Rattle.text.specs.Own.{Owned}
+use Rattle.tableless.specs.Own.{Owned}
 use Rattle.listing_cases.proofs.show.Statement.{statement}
 use Rattle.listing_cases.proofs.show.Tie as tie
 

@@ -1,7 +1,8 @@
 -- `report` meets its contract: the line of a column that does not open, of a recording that is too long, or of the replay.
 -- Assumes nothing.
-use Rattle.reporting.proofs.Reports.{reported-column, found-column, reported-long, reported-run}
+use Rattle.reporting.proofs.Reports.{reported-column, reported-long, reported-run}
 use borrow.Author.Needs.{needs}
+use Rattle.tableless.proofs.Answered.{found-column}
 use Rattle.reporting.proofs.report.Statement.{statement}
 use Rattle.reporting.proofs.report.Tie as tie
 
@@ -14,11 +15,15 @@ enum-known-opened c = search needs
 enum-told : tie.Need-enum-told
 enum-told c = search needs
 
-refusal-number-requires : tie.Need-refusal-number-requires
-refusal-number-requires c κs = search needs
+slice-aggregate-refused-line : tie.Need-slice-aggregate-refused-line
+slice-aggregate-refused-line c = search needs
 
-cast-number : tie.Need-cast-number
-cast-number c = search needs
+refused-line-requires : tie.Need-refused-line-requires
+refused-line-requires c κs = search needs
+
+returns : tie.Need-returns
+returns c = let told = c .before .before .before in
+    (reported-column _ _ (told .before .before .open-plain .ensures) (told .enum-told .given .1) (c .refused-line .ensures .0), c .refused-line .ensures .1)
 
 slice-aggregate-named-line : tie.Need-slice-aggregate-named-line
 slice-aggregate-named-line c = search needs
@@ -26,23 +31,11 @@ slice-aggregate-named-line c = search needs
 named-line-requires : tie.Need-named-line-requires
 named-line-requires c κs = search needs
 
-returns : tie.Need-returns
-returns c =
-    let number = c .before .before .before in
-    let told = number .before in
-    (reported-column _ _ (told .before .before .open-plain .ensures) (told .enum-told .given .1) (number .refusal-number .ensures) (c .named-line .ensures .0), c .named-line .ensures .1)
-
-slice-aggregate-named-line-2 : tie.Need-slice-aggregate-named-line-2
-slice-aggregate-named-line-2 c = search needs
-
-named-line-requires-2 : tie.Need-named-line-requires-2
-named-line-requires-2 c κs = search needs
-
 returns-2 : tie.Need-returns-2
 returns-2 c =
     let long = c .before .before .before in
     let was = long .before .before in
-    (reported-long _ _ (was .before .before .open-plain .ensures) (was .opened .given .1) (long .if1 .taken) (c .named-line2 .ensures .0), c .named-line2 .ensures .1)
+    (reported-long _ _ (was .before .before .open-plain .ensures) (was .opened .given .1) (long .if1 .taken) (c .named-line .ensures .0), c .named-line .ensures .1)
 
 replay-requires : tie.Need-replay-requires
 replay-requires c κs = let was = c .before .before in
@@ -65,13 +58,11 @@ report-spec =
     open-plain-requires
     enum-known-opened
     enum-told
-    refusal-number-requires
-    cast-number
+    slice-aggregate-refused-line
+    refused-line-requires
+    returns
     slice-aggregate-named-line
     named-line-requires
-    returns
-    slice-aggregate-named-line-2
-    named-line-requires-2
     returns-2
     replay-requires
     report-line-requires

@@ -2,9 +2,9 @@
 -- Assumes nothing.
 use mathlib.Core.Path.{sym, ap, _∙_, subst}
 use denote.Ref.{now}
-use Rattle.text.specs.declared.own.Own.{Own}
-use Rattle.text.specs.Own.{ownAt, Owned}
-use Rattle.text.proofs.Owns.{owned-first}
+use Rattle.tableless.specs.declared.own.Own.{Own}
+use Rattle.tableless.specs.Own.{ownAt, Owned}
+use Rattle.tableless.proofs.Owns.{owned-first}
 use borrow.Author.Needs.{needs}
 use Rattle.blaming.proofs.rows.own_at.Statement.{statement}
 use Rattle.blaming.proofs.rows.own_at.Tie as tie

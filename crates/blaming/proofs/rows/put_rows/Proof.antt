@@ -5,7 +5,7 @@ use mathlib.Core.Path.{_≡_}
 use native.Mathlib.Omega.{arith}
 use lib.ListN.{length}
 use denote.Ref.{now}
-use Rattle.text.specs.Own.{ownRow}
+use Rattle.tableless.specs.Own.{ownRow}
 use Rattle.blaming.specs.Bytes.{rowText}
 use Rattle.blaming.proofs.RowTexts.{Written, written-starts, written-more}
 use borrow.Author.Needs.{needs}

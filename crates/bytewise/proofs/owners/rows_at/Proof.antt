@@ -11,9 +11,9 @@ use Rattle.format.specs.Reading.{blockAt}
 use Rattle.owning.specs.Bytes.{rowsOf}
 use Rattle.owning.specs.Search.{searched, Searching}
 use Rattle.owning.proofs.Searches.{search-ends}
-use Rattle.text.specs.declared.own.Own.{Own}
-use Rattle.text.specs.Own.{tableOf, ownAt, Owned}
-use Rattle.text.proofs.Owns.{own-few, own-block, owned-first, owned-at}
+use Rattle.tableless.specs.declared.own.Own.{Own}
+use Rattle.tableless.specs.Own.{tableOf, ownAt, Owned}
+use Rattle.tableless.proofs.Owns.{own-few, own-block, owned-first, owned-at}
 use borrow.Author.Needs.{needs}
 use Rattle.bytewise.proofs.owners.rows_at.Statement.{statement}
 use Rattle.bytewise.proofs.owners.rows_at.Tie as tie

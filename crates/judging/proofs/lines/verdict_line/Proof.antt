@@ -31,8 +31,17 @@ named-line-requires c κs = search needs
 enum-known-checked-2 : tie.Need-enum-known-checked-2
 enum-known-checked-2 c = search needs
 
-counts-line-requires : tie.Need-counts-line-requires
-counts-line-requires c κs = search needs
+slice-aggregate-pair-line : tie.Need-slice-aggregate-pair-line
+slice-aggregate-pair-line c = search needs
+
+cast-pair-line : tie.Need-cast-pair-line
+cast-pair-line c = search needs
+
+slice-aggregate-pair-line-2 : tie.Need-slice-aggregate-pair-line-2
+slice-aggregate-pair-line-2 c = search needs
+
+pair-line-requires : tie.Need-pair-line-requires
+pair-line-requires c κs = search needs
 
 enum-known-checked-3 : tie.Need-enum-known-checked-3
 enum-known-checked-3 c = search needs
@@ -80,7 +89,7 @@ returns-2 : tie.Need-returns-2
 returns-2 c = rw (c .before .before .before .before .before .checked .given .1, ← c .before .before .number .ensures) (c .named-line .ensures)
 
 returns-3 : tie.Need-returns-3
-returns-3 c = rw (c .before .before .before .checked2 .given .1) (c .counts-line .ensures)
+returns-3 c = rw (c .before .before .before .before .before .checked2 .given .1) (c .pair-line .ensures)
 
 returns-4 : tie.Need-returns-4
 returns-4 c = rw (c .before .before .before .before .checked3 .given .1) (c .named-line2 .ensures)
@@ -107,7 +116,10 @@ verdict-line-spec =
     cast-named-line
     named-line-requires
     enum-known-checked-2
-    counts-line-requires
+    slice-aggregate-pair-line
+    cast-pair-line
+    slice-aggregate-pair-line-2
+    pair-line-requires
     enum-known-checked-3
     slice-aggregate-named-line-2
     cast-named-line-2

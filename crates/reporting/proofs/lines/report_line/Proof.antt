@@ -19,8 +19,20 @@ named-line-requires c κs = search needs
 enum-known-replayed-2 : tie.Need-enum-known-replayed-2
 enum-known-replayed-2 c = search needs
 
-differ-line-requires : tie.Need-differ-line-requires
-differ-line-requires c κs = search needs
+slice-aggregate-pair-line : tie.Need-slice-aggregate-pair-line
+slice-aggregate-pair-line c = search needs
+
+cast-pair-line : tie.Need-cast-pair-line
+cast-pair-line c = search needs
+
+slice-aggregate-pair-line-2 : tie.Need-slice-aggregate-pair-line-2
+slice-aggregate-pair-line-2 c = search needs
+
+cast-pair-line-2 : tie.Need-cast-pair-line-2
+cast-pair-line-2 c = search needs
+
+pair-line-requires : tie.Need-pair-line-requires
+pair-line-requires c κs = search needs
 
 enum-known-replayed-3 : tie.Need-enum-known-replayed-3
 enum-known-replayed-3 c = search needs
@@ -41,7 +53,7 @@ returns : tie.Need-returns
 returns c = rw (c .before .before .before .before .replayed .given .1) (c .named-line .ensures)
 
 returns-2 : tie.Need-returns-2
-returns-2 c = rw (c .before .before .before .replayed2 .given .1) (c .differ-line .ensures)
+returns-2 c = rw (c .before .before .before .before .before .replayed2 .given .1) (c .pair-line .ensures)
 
 returns-3 : tie.Need-returns-3
 returns-3 c = rw (c .before .before .before .before .before .replayed3 .given .1, ← c .before .before .number .ensures) (c .named-line2 .ensures)
@@ -55,7 +67,11 @@ report-line-spec =
     cast-named-line
     named-line-requires
     enum-known-replayed-2
-    differ-line-requires
+    slice-aggregate-pair-line
+    cast-pair-line
+    slice-aggregate-pair-line-2
+    cast-pair-line-2
+    pair-line-requires
     enum-known-replayed-3
     slice-aggregate-named-line-2
     number-requires

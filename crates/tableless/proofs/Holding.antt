@@ -1,0 +1,59 @@
+-- The values of rows that a list holds.
+--     values-none, values-front      no row; those that stand in the front of a list
+--     holds-nothing, holds-chunk     no row; those that a chunk was read of
+--     held-row, held-at              a row that it holds; one of the block at hand
+-- Assumes nothing.
+use Prim.Native.Nat.{ℕ, _+_, _-_, _/_, _≤_, _<_}
+use mathlib.Core.Path.{_≡_, refl, sym, ap, _∙_, subst}
+use mathlib.Core.List.{List, _++_}
+use native.Mathlib.Nat.{not-suc-le-zero}
+use native.Mathlib.Omega.{arith}
+use lib.ListN.{length, getD, List·getD-append}
+use Rattle.format.specs.declared.Column.{Column}
+use Rattle.format.specs.Listing.{openedHere}
+use Rattle.format.specs.Outcome.{Outcome, Outcome.value}
+use Rattle.format.specs.Reading.{blockAt}
+use Rattle.blockwise_linear.specs.declared.passing.Pass.{Pass}
+use Rattle.tableless.specs.declared.held.Held.{Held}
+use Rattle.tableless.specs.Holding.{Values, Holds, HoldsAt}
+use Rattle.tableless.specs.Own.{tableOf, ownRow, passAt, Opens, Owned, AtRow}
+use Rattle.tableless.proofs.Owns.{own-few, own-block, owned-at}
+
+module _ (read : ℕ → Outcome ℕ) (r : ℕ) where
+  pub values-none : (values : List ℕ) → length values ≡ 512 → Values read r 0 values
+  values-none values long = record { long = long; few = omega arith; each = λ j below. absurd (not-suc-le-zero below) }
+
+  pub values-front : (front rest : List ℕ) (n : ℕ) → length (front ++ rest) ≡ 512 → n ≡ length front → n ≤ 512 → ((j : ℕ) → j < length front → read (r + j) ≡ value (getD front j 0))
+      → Values read r n (front ++ rest)
+  values-front front rest n long all few each =
+      record { long = long; few = few; each = λ j below. let h : j < length front = omega arith in each j h ∙ ap value (sym (List·getD-append front rest 0 j h)) }
+
+module _ {s : List ℕ} {c : Column} {values : List ℕ} where
+  pub holds-nothing : {p : Pass} (h : Held) → Owned s c p → h .pass ≡ p → h .block ≡ 4294967295 → h .count ≡ 0 → length values ≡ 512 → Holds s c h values
+  holds-nothing h own same none zero room =
+      record {
+        own = subst (λ (p : Pass). Owned s c p) (sym same) own;
+        block = λ r inside e. absurd (omega (arith, own-few (own .opens)));
+        rows = subst (λ (n : ℕ). Values (ownRow c s) (h .first) n values) (sym zero) (values-none (ownRow c s) (h .first) values room);
+      }
+
+  pub holds-chunk : {p : Pass} {r n : ℕ} → Opens s c → r < c .rows → p ≡ passAt s c r → Values (ownRow c s) r n values
+      → HoldsAt s c r (record { pass = p; block = r / 512; first = r; count = n }) values
+  holds-chunk {p} {r} {n} e inside is rows =
+      record {
+        holds = record {
+          own = subst (λ (p : Pass). Owned s c p) (sym is) (owned-at e r);
+          block = λ q there alike. ap (λ (p : Pass). p .block) is ∙ own-block e r inside ∙ ap (blockAt (tableOf (openedHere s))) (sym alike);
+          rows = rows;
+        };
+        at = λ _. refl;
+      }
+
+  module _ {h : Held} {row : ℕ} where
+    pub held-row : Holds s c h values → h .first ≤ row → row - h .first < h .count → value (getD values (row - h .first) 0) ≡ ownRow c s row
+    held-row f low below =
+        let here : h .first + (row - h .first) ≡ row = omega arith in
+        sym (ap (ownRow c s) (sym here) ∙ f .rows .each (row - h .first) below)
+
+    pub held-at : HoldsAt s c row h values → row < c .rows → AtRow s c (h .pass .block) row
+    held-at f inside = record { opens = f .holds .own .opens; inside = inside; block = f .holds .block row inside (f .at inside) }
