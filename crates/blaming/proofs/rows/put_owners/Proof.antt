@@ -5,8 +5,8 @@ use native.Mathlib.Nat.{add-zero}
 use native.Mathlib.Omega.{arith}
 use denote.Ref.{now}
 use Rattle.text.specs.declared.own.Own.{Own}
-use Rattle.text.specs.Own.{Owned}
-use Rattle.text.proofs.Owns.{owned-at}
+use Rattle.tableless.specs.Own.{Owned}
+use Rattle.tableless.proofs.Owns.{owned-at}
 use borrow.Author.Needs.{needs}
 use Rattle.blaming.proofs.rows.put_owners.Statement.{statement}
 use Rattle.blaming.proofs.rows.put_owners.Tie as tie
