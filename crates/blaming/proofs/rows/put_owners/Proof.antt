@@ -4,7 +4,7 @@ use mathlib.Core.Path.{refl, sym, subst}
 use native.Mathlib.Nat.{add-zero}
 use native.Mathlib.Omega.{arith}
 use denote.Ref.{now}
-use Rattle.text.specs.declared.own.Own.{Own}
+use Rattle.tableless.specs.declared.own.Own.{Own}
 use Rattle.tableless.specs.Own.{Owned}
 use Rattle.tableless.proofs.Owns.{owned-at}
 use borrow.Author.Needs.{needs}
