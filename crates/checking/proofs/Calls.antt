@@ -38,7 +38,7 @@ use Rattle.format.proofs.Writes.{written-as}
 use Rattle.records.proofs.Calls.{written-of, front-of, by-sheet}
 use Rattle.sheets.proofs.SheetNumbers.{accepted}
 use Rattle.checking.specs.Checked.{CheckedAs}
-use Rattle.checking.proofs.Verdicts.{through}
+use Rattle.checking.proofs.Tables.{through}
 
 -- ---- what a yes says
 

@@ -1,22 +1,12 @@
 // A column from any writer checked against the list of values that it is to hold: it is passed, or the first reason why not. No argument makes a
 // call fail, and each contract says what it answers and what the lent table holds afterwards.
-mod head;
-mod rows;
-
-ghost use Prim.Native.Nat.{ℕ};
-ghost use mathlib.Core.Path.{_≡_};
 ghost use lib.ListN.{length};
-ghost use Rattle.format.specs.Checking.{checked};
-ghost use Rattle.format.specs.Opening.{columnIn};
-ghost use Rattle.format.specs.Refusals.{openedMeaning, checkedMeaning};
 ghost use Rattle.format.specs.Sheets.{openedUnder};
 ghost use Rattle.format.specs.Typed.{storedAs};
-ghost use Rattle.checking.specs.Checked.{Answers, CheckedAs};
+ghost use Rattle.checking.specs.Checked.{CheckedAs};
 use format::Block;
 use format::Checked;
 use format::Kind;
-use format::Opened;
-use rows::Walk;
 
 // Opens a column under an acceptance sheet and checks it against a list of numbers.
 pub fn check(sheet: u32, bytes: &[u8], values: &[u64], table: &mut [Block]) -> Checked
@@ -36,35 +26,5 @@ pub fn check_as(
     ensures { λ r. ⌜ CheckedAs (openedUnder sheet (now (bytes .entry)) (length (now (table .entry)))) (now (bytes .entry)) (storedAs kind (now (values .entry))) r (now (table .entry)) (now (table .exit)) ⌝ }
 {
     let opened = records::open_under(sheet, bytes, table);
-    verdict_on(kind, opened, bytes, values)
-}
-
-// Internal: asks for what opening these bytes answers, under some sheet and with some room. The verdict on the column: its rows are decoded in chunks, up to the first that is
-// not its value, each with the block out of the column's own footer, so that no table is needed.
-pub fn verdict_on(kind: Kind, opened: Opened, bytes: &[u8], values: &[u64]) -> Checked
-    requires { ⌜ Answers (now bytes) opened ⌝ }
-    ensures { λ r. ⌜ ((sheet room : ℕ) → openedMeaning opened ≡ columnIn (openedUnder sheet (now (bytes .entry)) room) → checkedMeaning r ≡ checked (openedUnder sheet (now (bytes .entry)) room) (now (bytes .entry)) (storedAs kind (now (values .entry)))) ⌝ }
-{
-    let column = match opened {
-        Opened::Column(column, _) => column,
-        Opened::Refused(refusal) => return Checked::Unopened(refusal),
-    };
-    if column.rows as usize != values.len() {
-        return Checked::Counts {
-            column: column.rows,
-            list: values.len(),
-        };
-    }
-    let rows = loading::opening::table_rows(opened);
-    let blocks = (rows as usize + 511) / 512;
-    let mut decoded = [0u64; 512];
-    let mut pass = blockwise_linear::passing::begin(bytes, rows);
-    let mut w = Walk { at: 0, going: true };
-    while w.going {
-        pass = blockwise_linear::passing::pass_to(bytes, rows, pass, (w.at / 512) as usize);
-        let block = pass.block;
-        let stretch = chunks::taking::take(column, blocks, block, bytes, w.at, &mut decoded);
-        w = rows::step(kind, values, &decoded, stretch, w);
-    }
-    head::answer(kind, column, values, w)
+    verifying::verdict_on(kind, opened, bytes, values)
 }

@@ -49,6 +49,6 @@ pub(crate) fn check_front(sheet: u32, bytes: &[u8], values: &[u64], n: usize) ->
         return Checked::Unopened(Refusal::OverLimit);
     }
     let opened = loading::open_plain_under(sheet, bytes, BLOCKS_MAX);
-    let checked = checking::verdict_on(Kind::U64, opened, bytes, &values[..n]);
+    let checked = verifying::verdict_on(Kind::U64, opened, bytes, &values[..n]);
     within_rows(checked)
 }

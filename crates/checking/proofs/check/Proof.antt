@@ -14,7 +14,7 @@ use Rattle.format.proofs.Checked.Laws as R′
 use Rattle.records.proofs.Types.{block}
 use Rattle.checking.specs.Checked.{CheckedAs}
 use Rattle.checking.proofs.Types as Ty
-use Rattle.checking.proofs.Verdicts.{numbers-checked}
+use Rattle.checking.proofs.Tables.{numbers-checked}
 use Rattle.checking.proofs.check_as as ca
 use Rattle.checking.proofs.check_as.Symbol as ca-def
 use Rattle.checking.proofs.check_as.Symbol.{name as #checking·check-as}

@@ -18,16 +18,17 @@ use Rattle.format.specs.Sheets.{openedUnder}
 use Rattle.format.specs.Typed.{storedAs}
 use Rattle.format.proofs.Opened.Laws as O′
 use Rattle.records.proofs.Types.{block, opened}
-use Rattle.checking.specs.Checked.{CheckedAs, Answers}
+use Rattle.checking.specs.Checked.{CheckedAs}
+use Rattle.verifying.specs.Asked.{FromOpening}
 use Rattle.checking.proofs.Types as Ty
 use Rattle.records.proofs.open_under as un
 use Rattle.records.proofs.open_under.Symbol as un-def
 use Rattle.records.proofs.open_under.Symbol.{name as #records·open-under}
 use Rattle.records.proofs.open_under.Met as un-thm
-use Rattle.checking.proofs.verdict_on as vo
-use Rattle.checking.proofs.verdict_on.Symbol as vo-def
-use Rattle.checking.proofs.verdict_on.Symbol.{name as #checking·verdict-on}
-use Rattle.checking.proofs.verdict_on.Met as vo-thm
+use Rattle.verifying.proofs.verdict_on as vo
+use Rattle.verifying.proofs.verdict_on.Symbol as vo-def
+use Rattle.verifying.proofs.verdict_on.Symbol.{name as #verifying·verdict-on}
+use Rattle.verifying.proofs.verdict_on.Met as vo-thm
 use Rattle.checking.proofs.check_as.Key.{name as #checking·check-as}
 use Rattle.checking.proofs.check_as as f
 use Rattle.checking.proofs.check_as.Statement as stated
@@ -99,7 +100,7 @@ module _ {M : Type 1} (𝓤 : URA M) (H : Heap 𝓤) (A : Atoms 𝓤) (W : Given
   abbrev Says : Opened → List Block → Type 0
   Says p zs = OpenedAs (openedUnder sheet (bytes .now) m) p (table .now) zs
 
-  module _ (C : Calls 𝓤 H) (Λ : Loops 𝓤 H) (fm : FmC 𝓤 H (W .laws) C) (known-under : Triple 𝓤 (C #records·open-under) (Under 𝓤 H A mem run)) (known-on : Triple 𝓤 (C #checking·verdict-on) (On 𝓤 H A mem run)) where
+  module _ (C : Calls 𝓤 H) (Λ : Loops 𝓤 H) (fm : FmC 𝓤 H (W .laws) C) (known-under : Triple 𝓤 (C #records·open-under) (Under 𝓤 H A mem run)) (known-on : Triple 𝓤 (C #verifying·verdict-on) (On 𝓤 H A mem run)) where
     walk : length (bytes .now) < 2 ^ 64 → length (values .now) < 2 ^ 64 → m < 2 ^ 64 → ent 𝓤 (onEntry 𝓤 H A f.signature (κ, (κ₁, (κ₂, tt))) (q, (q₁, (q₂, tt))) x at) (WpFn 𝓤 H C Λ code.function (Ty.kind .val kind ∷ vint w32 sheet ∷ bv ∷ vv ∷ tv ∷ []) Post)
     walk b-fits v-fits t-fits =
         qed W ((‵ (flft κ q) ⊛ (‵ (flft κ₁ q₁) ⊛ (‵ (flft κ₂ q₂) ⊛ ‵ ftrue))) ∷ ‵ (owns (Ty.kind .row ∷ u32 ∷ ShrSlice (named 0) κ u8 ∷ ShrSlice (named 1) κ₁ u64 ∷ MutSlice (named 2) κ₂ (block .row) ∷ []) x at) ∷ []) ∵
@@ -125,7 +126,7 @@ module _ {M : Type 1} (𝓤 : URA M) (H : Heap 𝓤) (A : Atoms 𝓤) (W : Given
         move ! (4 ∷ []) $ use1 W (‵ Values ⊛ ‵ Values) (shr-slice-copy 𝓤 H A W (named 1) κ₁ u64 .twice values (vv ∷ [])) $ split ! $ nothing ! $ move ! (1 ∷ 0 ∷ []) $ fjoin ! $
         move ! (5 ∷ []) $ use1 W (‵ Bytes ⊛ ‵ Bytes) (shr-slice-copy 𝓤 H A W (named 0) κ u8 .twice bytes (bv ∷ [])) $ split ! $ move ! (0 ∷ 2 ∷ []) $ fjoin ! $ have ! opened r (fits opened r u is) $ fjoin ! $ have ! Ty.kind kind kis $ fjoin ! $ move ! (3 ∷ 0 ∷ []) $
         calls-plain ! fm vo.ended (vo.clauses 𝓤 H A mem run) known-on ((κ, (κ₁, tt)), (q, (q₁, tt)), tt, (kind, (r, (bytes, (values, tt)))), (vals Ty.kind kind, (vals opened r, (bv ∷ [], (vv ∷ [], tt))))) tt
-        (factI 𝓤 (Answers (bytes .now) r) (emp 𝓤) (record { sheet = sheet; room = m; is = e .answer }))
+        (factI 𝓤 (FromOpening (bytes .now) r) (emp 𝓤) (record { sheet = sheet; room = m; is = e .answer }))
         (λ v. (n room : ℕ) → openedMeaning r ≡ columnIn (openedUnder n (bytes .now) room) → checkedMeaning v ≡ checked (openedUnder n (bytes .now) room) (bytes .now) (storedAs kind (values .now))) (λ v e. id⊢ 𝓤 _) (Ty.checked .val) (Ty.checked .tells)
         (and-then ! (load ! (from ! (stop !)) (look ! 19 refl)) (and-then ! (load ! (from ! (stop !)) (look ! 9 refl)) (and-then ! (load ! (from ! (stop !)) (look ! 15 refl)) (and-then ! (load ! (from ! (stop !)) (look ! 13 refl)) (no-more !))))) (λ v ve vis.
         land ! (from ! (stop !)) (init ! 21 refl (typed W Ty.checked v _ vis .0)) $
@@ -134,7 +135,7 @@ module _ {M : Type 1} (𝓤 : URA M) (H : Heap 𝓤) (A : Atoms 𝓤) (W : Given
         by ! (exits v (zs .1 .1 .0) (record { answer = ve sheet m (e .answer); table = e .table }) long vis)))))))))))))))))
 
 module _ {M : Type 1} (𝓤 : URA M) (H : Heap 𝓤) (A : Atoms 𝓤) (W : Given 𝓤 H A) (mem : Memory → SProp 𝓤) (run : Routine → Fun 𝓤) where
-  walks : (𝓣 : Tables 𝓤 H) → Triple 𝓤 (𝓣 .C #records·open-under) (Under 𝓤 H A mem run) → Triple 𝓤 (𝓣 .C #checking·verdict-on) (On 𝓤 H A mem run) → Walks 𝓤 H A f.ended stayed (WpFn 𝓤 H (𝓣 .C) (𝓣 .Λ) code.function) (f.clauses 𝓤 H A mem run)
+  walks : (𝓣 : Tables 𝓤 H) → Triple 𝓤 (𝓣 .C #records·open-under) (Under 𝓤 H A mem run) → Triple 𝓤 (𝓣 .C #verifying·verdict-on) (On 𝓤 H A mem run) → Walks 𝓤 H A f.ended stayed (WpFn 𝓤 H (𝓣 .C) (𝓣 .Λ) code.function) (f.clauses 𝓤 H A mem run)
   walks 𝓣 a₁ a₂ = walked 𝓤 H A f.ended stayed (f.clauses 𝓤 H A mem run) (WpFn 𝓤 H (𝓣 .C) (𝓣 .Λ) code.function) (λ κs. (vals Ty.kind, (uint-vals w32, (slice-vals, (slice-vals, (slice-vals, tt))))))
       (λ κs. (Ty.kind .tells, (uint-tells w32, (shr-slice-tells (named 0) (κs .0) u8, (shr-slice-tells (named 1) (κs .1 .0) u64, (mut-slice-tells (named 2) (κs .1 .1 .0) (block .row), tt))))))
       (λ κs qs bounds a _ are. via 𝓤 _ (fst∗ 𝓤 _ (emp 𝓤)) (walk 𝓤 H A W mem run (κs .0) (κs .1 .0) (κs .1 .1 .0) (qs .0) (qs .1 .0) (qs .1 .1 .0) (a .0) (a .1 .0) (a .1 .1 .0) (a .1 .1 .1 .0) (a .1 .1 .1 .1 .0) (are .0) (are .1 .0 .1) (𝓣 .C) (𝓣 .Λ) (fmOf 𝓤 H (W .laws) 𝓣) a₁ a₂ (are .1 .1 .0 .0 .1 .0) (are .1 .1 .1 .0 .0 .1 .0) (are .1 .1 .1 .1 .0 .0 .1 .0)))
@@ -148,4 +149,4 @@ check-as-spec 𝓤 H 𝓜 𝓖 𝓡 =
     walk-meets 𝓤 H (𝓖 .A) f.ended stayed W (goes-none 𝓤 H (𝓖 .A) W 3 (λ _. Ty.kind .row) yes (λ κs x f. refl), (goes-none 𝓤 H (𝓖 .A) W 3 (λ _. u32) yes (λ κs x f. refl), (goes-none-slice 𝓤 H (𝓖 .A) W 3 (0 ∷ []) tt (plain (λ _. u8)) yes, (goes-none-slice 𝓤 H (𝓖 .A) W 3 (1 ∷ []) tt (plain (λ _. u64)) yes, (goes-gave-slice 𝓤 H (𝓖 .A) W 3 2 tt (plain (λ _. block .row)), tt)))))
     (f.clauses 𝓤 H (𝓖 .A) (𝓜 .mem) (𝓡 .run)) (WpFn 𝓤 H (𝓣 .C) (𝓣 .Λ) code.function) (WpFn-mono 𝓤 H (W .laws) 𝓣 code.function) (walks 𝓤 H (𝓖 .A) W (𝓜 .mem) (𝓡 .run) 𝓣
     (cited 𝓤 H (Under 𝓤 H (𝓖 .A) (𝓜 .mem) (𝓡 .run)) 𝓜 𝓡 code.env #records·open-under un-def.routine code.calls-records·open-under (un-thm.met 𝓤 H 𝓜 𝓖 𝓡))
-    (cited 𝓤 H (On 𝓤 H (𝓖 .A) (𝓜 .mem) (𝓡 .run)) 𝓜 𝓡 code.env #checking·verdict-on vo-def.routine code.calls-checking·verdict-on (vo-thm.met 𝓤 H 𝓜 𝓖 𝓡))))
+    (cited 𝓤 H (On 𝓤 H (𝓖 .A) (𝓜 .mem) (𝓡 .run)) 𝓜 𝓡 code.env #verifying·verdict-on vo-def.routine code.calls-verifying·verdict-on (vo-thm.met 𝓤 H 𝓜 𝓖 𝓡))))

@@ -3,8 +3,8 @@
 use borrow.Author.Needs.{needs}
 use borrow.Author.Tests.{eq-eqb, ne-eqb}
 use Rattle.format.specs.Checking.{judgedHead}
-use Rattle.checking.proofs.head.judge.Statement.{statement}
-use Rattle.checking.proofs.head.judge.Tie as tie
+use Rattle.verifying.proofs.head.judge.Statement.{statement}
+use Rattle.verifying.proofs.head.judge.Tie as tie
 
 returns : tie.Need-returns
 unfolding judgedHead

@@ -20,7 +20,7 @@ use lib.Seq.{drop-cons}
 use Rattle.format.specs.Checking.{firstUnequal}
 use Rattle.format.specs.Comparing.{equalAnswers}
 use Rattle.format.specs.Outcome.{Outcome, Outcome.value, Outcome.refusal, pick}
-use Rattle.checking.specs.Walks.{sameFront}
+use Rattle.verifying.specs.Walks.{sameFront}
 
 -- ---- the front
 

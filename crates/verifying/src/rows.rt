@@ -4,7 +4,7 @@ ghost use Prim.Native.Nat.{_+_, _^_, _≤_, _<_};
 ghost use lib.ListN.{length, take, drop};
 ghost use Rattle.format.specs.Typed.{storedAs};
 ghost use Rattle.chunks.specs.Stretch.{counted};
-ghost use Rattle.checking.specs.Walks.{sameFront, behind};
+ghost use Rattle.verifying.specs.Walks.{sameFront, behind};
 use chunks::taking::Stretch;
 use chunks::taking::values_of;
 use format::Kind;

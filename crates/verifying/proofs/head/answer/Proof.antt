@@ -7,8 +7,8 @@ use denote.Ref.{now}
 use lib.ListN.{length}
 use Rattle.format.specs.Checking.{judgedHead}
 use Rattle.format.proofs.StoredLists.{stored-length}
-use Rattle.checking.proofs.head.answer.Statement.{statement}
-use Rattle.checking.proofs.head.answer.Tie as tie
+use Rattle.verifying.proofs.head.answer.Statement.{statement}
+use Rattle.verifying.proofs.head.answer.Tie as tie
 
 cast-if1 : tie.Need-cast-if1
 cast-if1 c = search needs

@@ -11,10 +11,10 @@ use lib.ListN.{take}
 use lib.Seq.{length-take-le}
 use Rattle.format.specs.Typed.{storedAs}
 use Rattle.chunks.specs.Stretch.{counted}
-use Rattle.checking.specs.Walks.{sameFront}
-use Rattle.checking.proofs.Steps.{behind-none, front-few, behind-some}
-use Rattle.checking.proofs.rows.step.Statement.{statement}
-use Rattle.checking.proofs.rows.step.Tie as tie
+use Rattle.verifying.specs.Walks.{sameFront}
+use Rattle.verifying.proofs.Steps.{behind-none, front-few, behind-some}
+use Rattle.verifying.proofs.rows.step.Statement.{statement}
+use Rattle.verifying.proofs.rows.step.Tie as tie
 
 values-of-requires : tie.Need-values-of-requires
 values-of-requires c κs = search needs

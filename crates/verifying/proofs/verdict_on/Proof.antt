@@ -7,11 +7,11 @@ use denote.Ref.{now}
 use lib.ListN.{length}
 use Rattle.format.specs.Typed.{storedAs}
 use Rattle.format.proofs.StoredLists.{stored-length}
-use Rattle.checking.specs.Walks.{left}
-use Rattle.checking.proofs.Steps.{stretch-kept}
-use Rattle.checking.proofs.Verdicts.{rows-few, maximum-fits, blocks-checked, owned, Turning, turning-starts, turn-room, turn-less, turn-again, refused-unopened, counts-differ, walked-verdict}
-use Rattle.checking.proofs.verdict_on.Statement.{statement}
-use Rattle.checking.proofs.verdict_on.Tie as tie
+use Rattle.verifying.specs.Walks.{left}
+use Rattle.verifying.proofs.Steps.{stretch-kept}
+use Rattle.verifying.proofs.Verdicts.{rows-few, maximum-fits, blocks-checked, owned, Turning, turning-starts, turn-room, turn-less, turn-again, refused-unopened, counts-differ, walked-verdict}
+use Rattle.verifying.proofs.verdict_on.Statement.{statement}
+use Rattle.verifying.proofs.verdict_on.Tie as tie
 
 abbrev Inv-loop : tie.InvT-loop
 Inv-loop kind bytes values column rows blocks decoded₀ pass₀ w₀ decoded pass w = Turning bytes column rows (storedAs kind values) decoded pass w

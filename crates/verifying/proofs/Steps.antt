@@ -29,9 +29,9 @@ use Rattle.chunks.specs.declared.taking.Stretch.{Stretch}
 use Rattle.reading.specs.Chunks.{chunkSize}
 use Rattle.chunks.specs.Stretch.{leading, stretch, counted, StretchAs}
 use Rattle.chunks.proofs.Stretches.{stretch-most, stretch-value}
-use Rattle.checking.specs.declared.rows.Walk.{Walk}
-use Rattle.checking.specs.Walks.{sameFront, behind, left, Walking, verdict}
-use Rattle.checking.proofs.Fronts.{front-most, skip-front, stop-front, stop-refused}
+use Rattle.verifying.specs.declared.rows.Walk.{Walk}
+use Rattle.verifying.specs.Walks.{sameFront, behind, left, Walking, verdict}
+use Rattle.verifying.proofs.Fronts.{front-most, skip-front, stop-front, stop-refused}
 
 -- a list that a chunk was read into keeps its length
 pub stretch-kept : {read : ℕ → Outcome ℕ} {r n : ℕ} {a : Stretch} {old new : List ℕ} → StretchAs read r n a old new → length new ≡ length old

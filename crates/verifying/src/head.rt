@@ -6,7 +6,7 @@ ghost use Rattle.format.specs.Checking.{judgedHead};
 ghost use Rattle.format.specs.Refusals.{checkedMeaning};
 ghost use Rattle.format.specs.Stats.{statsOf};
 ghost use Rattle.format.specs.Typed.{storedAs};
-ghost use Rattle.checking.specs.Walks.{verdict};
+ghost use Rattle.verifying.specs.Walks.{verdict};
 use crate::rows::Walk;
 use format::Checked;
 use format::Column;

@@ -7,9 +7,9 @@ use denote.Ref.{now}
 use lib.ListN.{length}
 use Rattle.format.specs.Typed.{storedAs}
 use Rattle.format.proofs.StoredLists.{stored-at, stored-length, stored-there}
-use Rattle.checking.proofs.Fronts.{Fronts, fronts-start, fronts-more, fronts-end, fronts-short, fronts-other}
-use Rattle.checking.proofs.rows.same_front.Statement.{statement}
-use Rattle.checking.proofs.rows.same_front.Tie as tie
+use Rattle.verifying.proofs.Fronts.{Fronts, fronts-start, fronts-more, fronts-end, fronts-short, fronts-other}
+use Rattle.verifying.proofs.rows.same_front.Statement.{statement}
+use Rattle.verifying.proofs.rows.same_front.Tie as tie
 
 abbrev Inv-loop : tie.InvT-loop
 Inv-loop kind numbers values i₀ i = Fronts numbers (storedAs kind values) i

@@ -11,7 +11,7 @@ use Rattle.format.specs.declared.Column.{Column}
 use Rattle.format.specs.Checking.{Reason.unequal, Verdict, Verdict.failed, firstUnequal, judgedHead}
 use Rattle.format.specs.Outcome.{Outcome, pick}
 use Rattle.format.specs.Stats.{statsOf}
-use Rattle.checking.specs.declared.rows.Walk.{Walk}
+use Rattle.verifying.specs.declared.rows.Walk.{Walk}
 
 -- how many entries at the front of two lists are equal
 unfoldable pub sameFront : (xs ys : List ℕ) → ℕ

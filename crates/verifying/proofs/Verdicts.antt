@@ -3,13 +3,11 @@
 --     rows-few, maximum-fits       its rows have 32 bits, its maximum 64
 --     blocks-checked               its blocks were checked
 --     Stands, stands, owned        what an answer that is a column comes from, under a sheet
---     through                      a lent table that was filled answers the column's rows as the opening's own numbers do
 --     Turning, turning-starts      the invariant of the walk over the rows, by a pass over the blocks
 --     turn-room, turn-less, turn-again
 --                                  a turn: what it asks for, that less is left, and that the invariant is kept
 --     refused-unopened, counts-differ, walked-verdict
 --                                  the verdict: opening's refusal, the counts, or what the walk over the rows came to
---     numbers-checked              of a list of numbers
 -- Assumes nothing.
 use Prim.Native.Nat.{ℕ, _+_, _-_, _*_, _/_, _%_, _^_, _≤_, _<_, min}
 use mathlib.Core.Path.{_≡_, refl, sym, ap, _∙_, subst}
@@ -19,28 +17,22 @@ use native.Mathlib.Nat.{mul-comm}
 use native.Mathlib.Omega.{arith}
 use borrow.Author.Tests.{ne-eqb}
 use lib.ListN.{length, take, drop}
-use Rattle.format.specs.declared.Block.{Block}
 use Rattle.format.specs.declared.Checked.{Checked}
 use Rattle.format.specs.declared.Checked.the-variants.{Unopened, Counts}
 use Rattle.format.specs.declared.Column.{Column}
-use Rattle.format.specs.declared.Kind.the-variants.{U64}
 use Rattle.format.specs.declared.Opened.{Opened}
 use Rattle.format.specs.declared.Opened.the-variants.{Column as OpenedColumn, Refused}
 use Rattle.format.specs.declared.Refusal.{Refusal}
 use Rattle.format.specs.declared.Spelling.{Spelling}
 use Rattle.format.specs.Bodies.{blockCount}
 use Rattle.format.specs.Checking.{Verdict, judged, checked}
-use Rattle.format.specs.Demands.{filledBy}
 use Rattle.format.specs.Opening.{Loaded, opened, columnIn}
 use Rattle.format.specs.Outcome.{Outcome, Outcome.value, Outcome.refusal}
 use Rattle.format.specs.Reading.{columnRow, blockAt, rowIn, rowAt}
 use Rattle.format.specs.Refusals.{paper, openedMeaning, checkedMeaning}
 use Rattle.format.specs.Sheets.{openedUnder}
-use Rattle.format.specs.Typed.{storedAs}
 use Rattle.format.proofs.Laid.{Laid, opened-laid, opened-whole}
 use Rattle.format.proofs.Outcomes.{not-value, value-same}
-use Rattle.format.proofs.Rows.{filled-row}
-use Rattle.format.proofs.StoredLists.{stored-numbers}
 use Rattle.blockwise_linear.specs.declared.passing.Pass.{Pass}
 use Rattle.blockwise_linear.specs.Passing.{passed, Passing}
 use Rattle.blockwise_linear.specs.Reader.{firstCursor, blocksFrom, Good}
@@ -53,10 +45,10 @@ use Rattle.chunks.proofs.Stretches.{stretch-by, stretch-for}
 use Rattle.sheets.proofs.SheetNumbers.{accepted}
 use Rattle.loading.specs.Opening.{blocked}
 use Rattle.loading.proofs.Passes.{opened-footer, pass-block, few-blocked, passing-at}
-use Rattle.checking.specs.declared.rows.Walk.{Walk}
-use Rattle.checking.specs.Checked.{Answers, CheckedAs}
-use Rattle.checking.specs.Walks.{sameFront, behind, left, Walking, verdict}
-use Rattle.checking.proofs.Steps.{stretch-kept, walking-starts, walking-step, step-less, step-room, walked-over}
+use Rattle.verifying.specs.declared.rows.Walk.{Walk}
+use Rattle.verifying.specs.Asked.{FromOpening}
+use Rattle.verifying.specs.Walks.{sameFront, behind, left, Walking, verdict}
+use Rattle.verifying.proofs.Steps.{stretch-kept, walking-starts, walking-step, step-less, step-room, walked-over}
 
 -- ---- a column of some bytes
 
@@ -135,19 +127,9 @@ stands sheet s room {c} {p} {a} told answer = go (openedUnder sheet s room) refl
     go (refusal number also) is r = absurd (not-value (sym r))
 
 -- the column that some opening answered
-pub owned : {s : List ℕ} {c : Column} {p : Spelling} {a : Opened} → a ≡ OpenedColumn c p → Answers s a → (o : Loaded) × Owns s c o
+pub owned : {s : List ℕ} {c : Column} {p : Spelling} {a : Opened} → a ≡ OpenedColumn c p → FromOpening s a → (o : Loaded) × Owns s c o
 owned told f = let o = stands (f .sheet) _ (f .room) told (f .is) in
     (o .0, o .1 .owns)
-
--- a row of an opened column, through the table that its opening filled
-pub through : (o : Loaded) (s : List ℕ) (table after : List Block) → opened s (length table) ≡ value o → after ≡ filledBy o table
-    → (r : ℕ) → r < o .column .rows → rowAt (o .column) after s r ≡ rowAt (o .column) (o .table) s r
-through o s table after found filled r h =
-    let laid = opened-laid s (length table) o found in
-    let first : 0 ≡ o .column .window .first = ap (λ (l : Loaded). l .column .window .first) (opened-whole s (length table) o found) in
-    let inside : columnRow (o .column) r < o .column .rows = omega (arith, first) in
-    ap (λ (l : List Block). rowAt (o .column) l s r) filled
-    ∙ filled-row o table s r (laid .table) (laid .rows .present (columnRow (o .column) r) inside)
 
 -- ---- the walk over the rows
 
@@ -211,7 +193,3 @@ module _ (sheet : ℕ) (s : List ℕ) (room : ℕ) (vs : List ℕ) {a : Opened} 
     walked-verdict count f stops means =
         let o = stands sheet s room told answer in
         means ∙ sym (on-rows (o .0) (o .1) ∙ walked-over (rowAt c (o .0 .table) s) (f .walking (o .0) (o .1 .owns)) c stops count)
-
--- numbers are stored as they are
-pub numbers-checked : {o : Outcome Loaded} {s vs : List ℕ} {r : Checked} {table after : List Block} → CheckedAs o s (storedAs U64 vs) r table after → CheckedAs o s vs r table after
-numbers-checked {o} {s} {vs} {r} {table} {after} f = subst (λ (l : List ℕ). CheckedAs o s l r table after) (stored-numbers vs) f
