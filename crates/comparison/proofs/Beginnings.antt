@@ -9,7 +9,6 @@ use mathlib.Core.Path.{_≡_, refl, sym, ap, _∙_, subst}
 use mathlib.Core.List.{List}
 use native.Mathlib.Nat.{zero-add}
 use native.Mathlib.Omega.{arith}
-use lib.ListN.{length}
 use Rattle.io.specs.Counts.{Counts}
 use Rattle.format.specs.declared.Column.{Column}
 use Rattle.format.specs.declared.Opened.{Opened}

@@ -38,19 +38,7 @@ pub fn begin(bytes: &[u8], line: &mut [u8; 128]) -> Begun
         return Begun::Refused(number, lines::refused_line(number, line));
     };
     let own = tableless::own::begin(bytes, column);
-    let codec = column.codec;
-    let max = column.minimum + column.gcd * column.count;
-    Begun::Column(
-        own,
-        lines::head_line(
-            lines::code_of(codec),
-            column.rows,
-            column.minimum,
-            max,
-            column.gcd,
-            line,
-        ),
-    )
+    Begun::Column(own, lines::column_line(column, line))
 }
 
 // Internal: asks for a column that was opened of these bytes, and a pass over its blocks. Writes the lines of the rows from `from` on at the start of a buffer, while a longest

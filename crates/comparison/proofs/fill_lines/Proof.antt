@@ -1,7 +1,7 @@
 -- `fill_lines` meets its contract. The invariant is `Pairing`, with what the values at hand of both sides hold; the measure is the number of rows left.
 -- Assumes nothing.
 use Prim.Native.Nat.{_+_, _-_, _^_, _<_, max}
-use mathlib.Core.Path.{_≡_, refl, sym}
+use mathlib.Core.Path.{_≡_, refl}
 use mathlib.Core.Logic.{⊎-elim}
 use native.Mathlib.Omega.{arith}
 use lib.ListN.{length}

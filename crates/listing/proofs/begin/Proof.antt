@@ -4,7 +4,6 @@ use borrow.Author.Needs.{needs}
 use Prim.Native.Nat.{_+_, _*_, _^_, _<_}
 use Rattle.format.specs.Refusals.{openedMeaning}
 use Rattle.format.proofs.Outcomes.{told}
-use native.Mathlib.Omega.{arith}
 use Rattle.tableless.proofs.Limits.{here-bounds}
 use Rattle.listing.proofs.Beginnings.{begun-refused, begun-column}
 use Rattle.listing.proofs.begin.Statement.{statement}
@@ -28,32 +27,23 @@ refused-line-requires c κs = search needs
 returns : tie.Need-returns
 returns c =
     let told = c .before .before .before in
-    begun-refused (told .before .before .open-plain .ensures) (c .refused-line .ensures .1) (told .enum-told .given .1) (c .before .before .refusal-number .ensures) (c .refused-line .ensures .0)
+    begun-refused _ (told .before .before .open-plain .ensures) (c .refused-line .ensures .1) (told .enum-told .given .1) (c .before .before .refusal-number .ensures) (c .refused-line .ensures .0)
 
 -- the maximum has 64 bits
 bounds : (c : tie.After-opened) → let x = c .opened .given .0 .0 in x .minimum + x .gcd * x .count < 2 ^ 64
 bounds c = here-bounds _ _ _ (told openedMeaning (c .before .before .open-plain .ensures) (c .opened .given .1))
 
-mul-max : tie.Need-mul-max
-mul-max c = omega (arith, bounds (c .before .before .before))
-
-add-max : tie.Need-add-max
-add-max c = omega (arith, bounds (c .before .before .before .before))
-
 begin-requires : tie.Need-begin-requires
 begin-requires c κs = search needs
 
-code-of-requires : tie.Need-code-of-requires
-code-of-requires c κs = search needs
-
-head-line-requires : tie.Need-head-line-requires
-head-line-requires c κs = search needs
+column-line-requires : tie.Need-column-line-requires
+column-line-requires c κs = bounds (c .before .before .before)
 
 returns-2 : tie.Need-returns-2
 returns-2 c =
-    let own = c .before .before .before .before .before in
+    let own = c .before .before in
     let o = own .before .before in
-    begun-column (o .before .before .open-plain .ensures) (c .head-line .ensures .1) (o .opened .given .1) (own .begin .ensures) (c .before .before .code-of .ensures) (c .head-line .ensures .0)
+    begun-column _ (o .before .before .open-plain .ensures) (c .column-line .ensures .1) (o .opened .given .1) (own .begin .ensures) (c .column-line .ensures .0)
 
 pub begin-spec : {M : Type 1} → statement M
 begin-spec =
@@ -66,8 +56,5 @@ begin-spec =
     refused-line-requires
     returns
     begin-requires
-    mul-max
-    add-max
-    code-of-requires
-    head-line-requires
+    column-line-requires
     returns-2)

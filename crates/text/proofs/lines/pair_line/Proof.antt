@@ -1,6 +1,6 @@
 -- `pair_line` meets its contract: two names of at most forty bytes, their numbers and the line feed have room in 128 bytes.
 -- Assumes nothing.
-use Prim.Native.Nat.{_+_, _≤_}
+use Prim.Native.Nat.{_≤_}
 use native.Mathlib.Omega.{arith}
 use lib.ListN.{length}
 use Rattle.format.specs.Listing.{named, namedLine}
