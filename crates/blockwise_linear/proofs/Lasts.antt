@@ -1,5 +1,5 @@
 -- What is known while a footer is read for its end alone; a block carries it on.
---     Ending, ending-starts, -more, -refused, -ends
+--     LastSoFar, ending-starts, -more, -refused, -ends
 --     last-refused, last-found
 -- Assumes nothing.
 use mathlib.Core.Path.{_≡_, refl, sym, ap, _∙_}
@@ -15,20 +15,20 @@ use Rattle.format.specs.Sheets.{lastFields}
 use Rattle.blockwise_linear.specs.Reader.{upToLength, firstCursor, lastFrom, lastIn}
 
 -- `left` blocks are still to come from `at` on, behind one of width `bits`
-pub record Ending (s : List ℕ) (k start left bits at : ℕ) : Type 0 where
+pub record LastSoFar (s : List ℕ) (k start left bits at : ℕ) : Type 0 where
   pub rest : lastFields k s 0 start ≡ lastFields left s bits at
 
-pub ending-starts : (s : List ℕ) (k start : ℕ) → Ending s k start k 0 start
+pub ending-starts : (s : List ℕ) (k start : ℕ) → LastSoFar s k start k 0 start
 ending-starts s k start = record { rest = refl }
 
-module _ {s : List ℕ} {k start left bits at : ℕ} (e : Ending s k start left bits at) where
+module _ {s : List ℕ} {k start left bits at : ℕ} (e : LastSoFar s k start left bits at) where
   -- a block more
   one-more : 0 < left → lastFields k s 0 start ≡ lastFields (suc (left - 1)) s bits at
   one-more more =
       let one : left ≡ suc (left - 1) = omega arith in
       e .rest ∙ ap (λ (n : ℕ). lastFields n s bits at) one
 
-  pub ending-more : (f : Fields) → 0 < left → readFields s at ≡ value f → Ending s k start (left - 1) (f .bits) (f .next)
+  pub ending-more : (f : Fields) → 0 < left → readFields s at ≡ value f → LastSoFar s k start (left - 1) (f .bits) (f .next)
   unfolding lastFields
   ending-more f more is =
       let next : lastFields (suc (left - 1)) s bits at ≡ lastFields (left - 1) s (f .bits) (f .next) = rw is in

@@ -5,5 +5,3 @@ pub mod Footers
 pub mod Passes
 pub mod Stops
 pub mod Lasts
--- reading rows
-pub mod Rows

@@ -3,7 +3,7 @@
 --     step-small                                        the place behind a block
 --     Checking, checking-starts, -more, -refused, -ends
 --                                                       the first pass
---     Filling, filling-starts, -good, -more, -ends      the second
+--     BlocksPut, filling-starts, -good, -more, -ends      the second
 -- Assumes nothing.
 use mathlib.Core.Path.{_≡_, refl, sym, ap, _∙_, subst}
 use mathlib.Core.List.{List, [], _∷_}
@@ -119,7 +119,7 @@ module _ {s : List ℕ} {first c : Cursor} {p : Spelling} (k : Checking s first 
 -- ---- the second pass
 
 -- l holds the i blocks before c; those from c on are still to come
-pub record Filling (s : List ℕ) (rows : ℕ) (l₀ : List Block) (c : Cursor) (i : ℕ) (l : List Block) : Type 0 where
+pub record BlocksPut (s : List ℕ) (rows : ℕ) (l₀ : List Block) (c : Cursor) (i : ℕ) (l : List Block) : Type 0 where
   pub small : Small c
   pub kept : length l ≡ length l₀
   pub enough : i + blockCount (c .left) ≤ length l
@@ -127,7 +127,7 @@ pub record Filling (s : List ℕ) (rows : ℕ) (l₀ : List Block) (c : Cursor) 
   pub good : blocksFrom s c ≡ value later
   pub rest : stored (listed (blocksFrom s (firstCursor s rows))) l₀ ≡ sets l i (later .blocks)
 
-pub filling-starts : (s : List ℕ) (rows : ℕ) (l : List Block) → rows < 2 ^ 32 → Fillable s rows (length l) → Filling s rows l (firstCursor s rows) 0 l
+pub filling-starts : (s : List ℕ) (rows : ℕ) (l : List Block) → rows < 2 ^ 32 → Fillable s rows (length l) → BlocksPut s rows l (firstCursor s rows) 0 l
 filling-starts s rows l few f =
     record {
       small = record { bytes = omega arith };
@@ -138,14 +138,14 @@ filling-starts s rows l few f =
       rest = rw (f .checked .is);
     }
 
-module _ {s : List ℕ} {rows : ℕ} {l₀ : List Block} {c : Cursor} {i : ℕ} {l : List Block} (k : Filling s rows l₀ c i l) where
+module _ {s : List ℕ} {rows : ℕ} {l₀ : List Block} {c : Cursor} {i : ℕ} {l : List Block} (k : BlocksPut s rows l₀ c i l) where
   -- a block that was checked is there
   pub filling-good : 0 < c .left → Good (stepIn s c)
   filling-good h =
       by-step (stepIn s c) (λ (t : Step). behind t (blocksFrom s (t .next))) (sym (by-block s c h) ∙ k .good) λ t e more.
       record { found = t; is = e }
 
-  pub filling-more : (t : Step) → stepIn s c ≡ value t → 0 < c .left → Filling s rows l₀ (t .next) (i + 1) (set l i (t .block))
+  pub filling-more : (t : Step) → stepIn s c ≡ value t → 0 < c .left → BlocksPut s rows l₀ (t .next) (i + 1) (set l i (t .block))
   filling-more t e h =
       let here : behind t (blocksFrom s (t .next)) ≡ value (k .later) = sym (rw e at (by-block s c h)) ∙ k .good in
       by-step (blocksFrom s (t .next)) (λ (later : Table). value (before t later)) here λ later good same.

@@ -3,9 +3,7 @@
 use Prim.Native.Nat.{ℕ, _+_, _-_, _*_, _^_, _≤_, _<_, min}
 use mathlib.Core.Path.{_≡_}
 use mathlib.Core.List.{List, []}
-use mathlib.Core.Bool.{true}
-use mathlib.Core.Logic.{_⊎_}
-use lib.Dec.{eqb, leb}
+use lib.Dec.{leb}
 use lib.ListN.{length, take, drop}
 use Rattle.format.specs.declared.Fields.{Fields}
 use Rattle.format.specs.declared.Block.{Block}
@@ -13,11 +11,11 @@ use Rattle.format.specs.declared.Codec.the-variants.{Blockwise}
 use Rattle.format.specs.declared.Column.{Column}
 use Rattle.format.specs.declared.Head.{Head}
 use Rattle.format.specs.declared.Spelling.{Spelling}
-use Rattle.format.specs.Outcome.{Outcome, Outcome.value, _>>=_, _>>_, demand, pick}
+use Rattle.format.specs.Outcome.{Outcome, Outcome.value, _>>=_, _>>_, demand}
 use Rattle.format.specs.Refusals.{numbered}
 use Rattle.format.specs.Word.{bytesFor}
 use Rattle.format.specs.Varint.{firstOf}
-use Rattle.format.specs.Packing.{bytesNum, legal}
+use Rattle.format.specs.Packing.{bytesNum}
 use Rattle.format.specs.Bodies.{blockCount}
 use Rattle.format.specs.Opening.{Table, columnOf, readFields, readBlocks}
 use Rattle.format.specs.Sheets.{lastFields}
@@ -110,14 +108,3 @@ pub record Good {A : Type 0} (o : Outcome A) : Type 0 where
 pub record Fillable (s : List ℕ) (rows room : ℕ) : Type 0 where
   pub checked : Good (blocksFrom s (firstCursor s rows))
   pub enough : blockCount rows ≤ room
-
--- the codec, a maximum of 64 bits, a legal width of the row's block, and a block that starts within the bytes if it has bits at all
-pub record Readable (col : Column) (b : Block) (s : List ℕ) : Type 0 where
-  pub codec : col .codec ≡ Blockwise
-  pub bounds : col .minimum + col .count * col .gcd < 2 ^ 64
-  pub lawful : legal (b .bits) ≡ true
-  pub start : (b .bits ≡ 0) ⊎ (col .start + b .start ≤ length s)
-
--- the byte where a block's numbers are read from; those of no bits may be looked for anywhere
-abbrev pub numbersStart : Column → Block → ℕ
-numbersStart col b = pick (eqb (b .bits) 0) 0 (col .start + b .start)

@@ -1,33 +1,25 @@
-// Reading: opening a column behind its head, and a row of an opened column.
+// Reading: opening a column behind its head.
 //
 // The footer is read twice. The first pass, here, reads every block's fields and adds up the area, before anything is decided;
-// who needs the blocks takes them one after another, once they are known to be good. A row takes its block by value.
+// who needs the blocks takes them one after another, once they are known to be good.
 ghost use mathlib.Core.Path.{_≡_};
-ghost use mathlib.Core.Bool.{true, _&&_};
-ghost use mathlib.Core.Logic.{_⊎_};
-ghost use Prim.Native.Nat.{ℕ, _+_, _-_, _*_, min, _/_, _%_, _^_, _≤_, _<_};
+ghost use mathlib.Core.Bool.{_&&_};
+ghost use Prim.Native.Nat.{_+_, _-_, min};
 ghost use lib.Dec.{leb};
-ghost use lib.ListN.{length, drop, getD};
+ghost use lib.ListN.{length, drop};
 ghost use Rattle.format.specs.Outcome.{Outcome.value};
-ghost use Rattle.format.specs.Word.{modAdd};
-ghost use Rattle.format.specs.Packing.{bytesNum, legal, unpack};
-ghost use Rattle.format.specs.Line.{lineAt};
-ghost use Rattle.format.specs.Refusals.{openedMeaning, rowMeaning};
+ghost use Rattle.format.specs.Packing.{bytesNum};
+ghost use Rattle.format.specs.Refusals.{openedMeaning};
 ghost use Rattle.format.specs.Opening.{openBlockwise, readFields, columnIn};
-ghost use Rattle.format.specs.Reading.{packedOf, scaled, valueIn, valueAt};
-ghost use Rattle.format.specs.Runs.{readRun, filledTo};
 ghost use Rattle.line.specs.Meaning.{fieldsMeaning};
-ghost use Rattle.blockwise_linear.specs.Reader.{stepMeaning, areaMeaning, lastMeaning, lastIn, upToLength, stepIn, blocksFrom, areaIn, columnOver, firstCursor, Small, Good, Readable, numbersStart};
+ghost use Rattle.blockwise_linear.specs.Reader.{stepMeaning, areaMeaning, lastMeaning, lastIn, upToLength, stepIn, blocksFrom, areaIn, columnOver, firstCursor, Small, Good};
 use format::Block;
-use format::BlockRow;
 use format::Codec;
 use format::Column;
-use format::ColumnRow;
 use format::Head;
 use format::Line;
 use format::Opened;
 use format::Refusal;
-use format::RowRead;
 use format::Spelling;
 use format::Window;
 use line::FieldsRead;
@@ -278,112 +270,4 @@ pub fn footer_last(bytes: &[u8], rows: u32) -> LastRead
         start,
         end,
     })
-}
-
-// A row of the column by its block: the block's number, and the row's within it.
-pub struct InBlock {
-    pub block: usize,
-    pub row: BlockRow,
-}
-
-// The only passage from a row of the column to a row of a block.
-pub fn split(row: ColumnRow) -> InBlock
-    ensures { λ r. ⌜ (r .block ≡ row .0 / 512) × (r .row .0 ≡ row .0 % 512) ⌝ }
-{
-    InBlock {
-        block: (row.0 / 512) as usize,
-        row: BlockRow(row.0 % 512),
-    }
-}
-
-// The packed number of a row of a block. A block of no bits may start anywhere.
-fn residual(column: Column, block: Block, bytes: &[u8], row: BlockRow) -> u64
-    requires { ⌜ Readable column block (now bytes) ⌝ }
-    ensures { λ r. ⌜ r ≡ unpack (block .bits) (drop (column .start + block .start) (now (bytes .entry))) (row .0) ⌝ }
-{
-    if block.bits == 0 {
-        return 0;
-    }
-    let start = column.start + block.start as usize;
-    bitpacker::get(&bytes[start..], block.bits as u8, row.0)
-}
-
-// Internal: asks for a Blockwise column whose maximum has 64 bits, and a block of a legal width that starts within the bytes if it has bits at all. The value of a row, with the row's block.
-pub fn get_val(column: Column, block: Block, bytes: &[u8], row: ColumnRow) -> RowRead
-    requires { ⌜ Readable column block (now bytes) ⌝ }
-    ensures { λ r. ⌜ rowMeaning r ≡ valueIn (column .codec) column block (row .0) (packedOf column block (now (bytes .entry)) (row .0)) ⌝ }
-{
-    let within = split(row).row;
-    let number = residual(column, block, bytes, within);
-    let multiple = word::add(line::eval(block.line, within.0 as u64), number);
-    stats::scaled(column, row, multiple)
-}
-
-// The byte where a block's numbers are read from; those of no bits may be looked for anywhere.
-fn numbers_start(column: Column, block: Block) -> usize
-    requires { ⌜ (block .bits ≡ 0) ⊎ (column .start + block .start < 2 ^ 64) ⌝ }
-    ensures { λ r. ⌜ r ≡ numbersStart column block ⌝ }
-{
-    if block.bits == 0 {
-        return 0;
-    }
-    column.start + block.start as usize
-}
-
-// The rows of one block from `first` on, by the line of that block and the numbers that stand at a width in an area, each scaled, up to the first above the count.
-fn line_rows(
-    area: &[u8],
-    line: Line,
-    bits: u8,
-    column: Column,
-    first: u32,
-    out: &mut [u64],
-) -> usize
-    requires { ⌜ legal bits ≡ true ⌝ }
-    requires { ⌜ column .minimum + column .count * column .gcd < 2 ^ 64 ⌝ }
-    requires { ⌜ first % 512 + length (now out) ≤ 512 ⌝ }
-    ensures { λ n. ⌜ filledTo n first (now (out .exit)) ≡ readRun (λ (r : ℕ). scaled column r (modAdd (lineAt line (r % 512)) (unpack bits (now (area .entry)) (r % 512)))) first (length (now (out .entry))) ⌝ }
-{
-    let minimum = column.minimum;
-    let gcd = column.gcd;
-    let count = column.count;
-    let from = split(ColumnRow(first)).row.0;
-    let step = bits as usize;
-    let mut bit = from as usize * step;
-    let mut i = 0;
-    while i < out.len() {
-        let within = from + i as u32;
-        let number = bitpacker::get_at(area, bits, bit);
-        let multiple = word::add(line::eval(line, within as u64), number);
-        if count < multiple {
-            return i;
-        }
-        out[i] = minimum + gcd * multiple;
-        bit += step;
-        i += 1;
-    }
-    i
-}
-
-// Internal: asks for the same, and for rows of one block. The values of the rows of a block from `first` on, as many as the list has room for, up to the first that is out of bounds: returns how many.
-pub fn get_range(
-    column: Column,
-    block: Block,
-    bytes: &[u8],
-    first: ColumnRow,
-    out: &mut [u64],
-) -> usize
-    requires { ⌜ Readable column block (now bytes) ⌝ }
-    requires { ⌜ first .0 % 512 + length (now out) ≤ 512 ⌝ }
-    ensures { λ n. ⌜ filledTo n (first .0) (now (out .exit)) ≡ readRun (valueAt column block (now (bytes .entry))) (first .0) (length (now (out .entry))) ⌝ }
-{
-    let start = numbers_start(column, block);
-    line_rows(
-        &bytes[start..],
-        block.line,
-        block.bits as u8,
-        column,
-        first.0,
-        out,
-    )
 }

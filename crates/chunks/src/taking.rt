@@ -1,5 +1,4 @@
 // A chunk of rows for callers that take refused rows one by one: its values up to the first that reading refuses, and that refusal.
-ghost use mathlib.Core.List.{List};
 ghost use mathlib.Core.Path.{_≡_};
 ghost use Prim.Native.Nat.{_+_, _-_, _^_, _≤_, _<_};
 ghost use lib.ListN.{length};

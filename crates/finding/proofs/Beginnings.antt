@@ -1,28 +1,23 @@
 -- How a lookup begins. Over any reading and any test.
 --     begins-lookup
 -- Assumes nothing.
-use Prim.Native.Nat.{ℕ, _+_, _-_, _%_, _<_, _≤_, min}
-use mathlib.Core.Path.{_≡_, refl, sym, ap, _∙_}
+use Prim.Native.Nat.{ℕ, _-_, min}
+use mathlib.Core.Path.{_≡_, refl}
 use mathlib.Core.Bool.{Bool, true, false}
-use mathlib.Core.Logic.{inl}
 use mathlib.Core.List.{List, [], _∷_}
 use native.Mathlib.Omega.{arith}
 use lib.Dec.{ltb, leb}
 use lib.ListN.{length}
-use lib.Seq.{sets}
-use borrow.Author.Tests.{leb-true, ltb-true, ltb-false, le-leb, lt-leb}
+use borrow.Author.Tests.{ltb-true, ltb-false, le-leb}
 use Rattle.format.specs.declared.Window.{Window}
-use Rattle.format.specs.declared.Refusal.the-variants.{NoSuchRow}
 use Rattle.format.specs.Lookup.{allRead, rowsPassing, lookedUp}
-use Rattle.format.specs.Outcome.{Outcome, Outcome.value, Outcome.refusal, _>>=_, _>>_, demand, pick}
-use Rattle.format.specs.Runs.{readRun, decoded}
-use Rattle.format.proofs.Runs.{run-long}
+use Rattle.format.specs.Outcome.{Outcome, Outcome.value, Outcome.refusal, _>>=_, _>>_, demand}
+use Rattle.format.specs.Runs.{readRun}
 use Rattle.chunks.specs.Rows.{rowsAmong}
 use Rattle.chunks.proofs.Rows.{all-run, all-refused, rows-run}
 use Rattle.walks.specs.declared.Walk.{Walk}
-use Rattle.walks.specs.declared.Walked.{Walked}
-use Rattle.walks.specs.declared.Walked.the-variants.{Entries, Refused}
-use Rattle.walks.specs.Walks.{Kept.allValues, Kept.rowsOf, kept, walked, WalkedAs, Passing, Walking}
+use Rattle.walks.specs.declared.Walked.the-variants.{Entries}
+use Rattle.walks.specs.Walks.{Kept.rowsOf, kept, walked, Walking}
 
 module _ (read : ℕ → Outcome ℕ) (test : ℕ → Bool) where
   -- a lookup is a walk

@@ -2,15 +2,15 @@
 --     Tallying, tally-starts, tally-more, tally-ends          counting them
 --     Filing, file-starts, file-more, file-ends               storing them
 -- Assumes nothing.
-use Prim.Native.Nat.{ℕ, suc, _+_, _<_, _≤_}
+use Prim.Native.Nat.{ℕ, _+_, _<_, _≤_}
 use mathlib.Core.Path.{_≡_, refl, sym, ap, _∙_}
 use mathlib.Core.Bool.{Bool, true, false}
-use mathlib.Core.List.{List, [], _∷_}
+use mathlib.Core.List.{List, _∷_}
 use native.Mathlib.Nat.{add-zero, zero-add, add-assoc}
 use native.Mathlib.Numerals.{add-one}
 use native.Mathlib.Omega.{arith}
-use lib.ListN.{length, drop, getD, set, length-set, drop-of-length-le}
-use lib.Seq.{sets, drop-cons}
+use lib.ListN.{length, drop, getD, set, length-set}
+use lib.Seq.{sets}
 use Rattle.format.specs.Outcome.{pick}
 use Rattle.chunks.specs.Rows.{rowsAmong}
 use Rattle.chunks.proofs.Rows.{rows-next, rows-none}

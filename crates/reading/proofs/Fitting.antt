@@ -27,7 +27,7 @@ use Rattle.format.specs.Runs.{readRun}
 use Rattle.format.proofs.Runs.{run-agree}
 use Rattle.bitpacked.specs.Reader.{Readable as BitpackedReadable}
 use Rattle.linear.specs.Reader.{Readable as LinearReadable}
-use Rattle.blockwise_linear.specs.Reader.{Readable as BlockReadable}
+use Rattle.blockwise_rows.specs.Reader.{Readable as BlockReadable}
 use Rattle.reading.specs.Chunks.{Chunk, Fitting}
 
 -- one of two tests held

@@ -36,7 +36,7 @@ fn place_of(column: Column, block: Block, row: ColumnRow) -> Place
         },
         Codec::Blockwise => Place {
             start: block.start,
-            row: blockwise_linear::reader::split(row).row.0,
+            row: blockwise_rows::reader::split(row).row.0,
             bits: block.bits,
         },
     }
@@ -49,7 +49,7 @@ fn has_block(codec: Codec, blocks: usize, row: ColumnRow) -> bool
     match codec {
         Codec::Bitpacked => true,
         Codec::Linear(_, _) => true,
-        Codec::Blockwise => blockwise_linear::reader::split(row).block < blocks,
+        Codec::Blockwise => blockwise_rows::reader::split(row).block < blocks,
     }
 }
 
@@ -145,7 +145,7 @@ fn value_of(column: Column, block: Block, bytes: &[u8], row: ColumnRow) -> RowRe
     match codec {
         Codec::Bitpacked => bitpacked::reader::get_val(column, bytes, row),
         Codec::Linear(line, bits) => linear::reader::get_val(column, line, bits, bytes, row),
-        Codec::Blockwise => blockwise_linear::reader::get_val(column, block, bytes, row),
+        Codec::Blockwise => blockwise_rows::reader::get_val(column, block, bytes, row),
     }
 }
 
@@ -225,7 +225,7 @@ pub fn decode_fitting(
         Codec::Linear(line, bits) => {
             linear::reader::get_range(column, line, bits, bytes, first, out)
         }
-        Codec::Blockwise => blockwise_linear::reader::get_range(column, block, bytes, first, out),
+        Codec::Blockwise => blockwise_rows::reader::get_range(column, block, bytes, first, out),
     }
 }
 

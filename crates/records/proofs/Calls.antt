@@ -1,5 +1,5 @@
 -- The demands, of the calls' own answers: from the contracts of `serialize`, `open`, `row` and `lookup`, and the theorems of `format`.
---     Opens, opens                       what an answer of `open` that is a column comes from
+--     TableOpens, opens                       what an answer of `open` that is a column comes from
 --     reads, written-of, front-of        what a call left is what was found
 --     own-rows, own-fits                 a column that was opened and narrowed answers its own rows with a value or 14: never 12, never 13; it fits together with its own bytes and table
 --     Shows, Returned, calls-return      demand 2: what was written opens, and through any window in it `row` and `lookup` give the values back
@@ -49,23 +49,23 @@ use Rattle.format.specs.Calls.{FoundAs, OpenedAs, SerializedAs}
 -- ---- opening
 
 -- an answer of `open` that is a column: what opening found, whose column and spelling it is and whose blocks the lent table holds afterwards
-pub record Opens (s : List ℕ) (table after : List Block) (c : Column) (p : Spelling) (o : Loaded) : Type 0 where
+pub record TableOpens (s : List ℕ) (table after : List Block) (c : Column) (p : Spelling) (o : Loaded) : Type 0 where
   pub found : opened s (length table) ≡ value o
   pub column : o .column ≡ c
   pub spelling : o .spelling ≡ p
   pub filled : after ≡ filledBy o table
 
-pub opens : (s : List ℕ) (table after : List Block) (c : Column) (p : Spelling) → OpenedAs (opened s (length table)) (OpenedColumn c p) table after → (o : Loaded) × Opens s table after c p o
+pub opens : (s : List ℕ) (table after : List Block) (c : Column) (p : Spelling) → OpenedAs (opened s (length table)) (OpenedColumn c p) table after → (o : Loaded) × TableOpens s table after c p o
 opens s table after c p r = go (opened s (length table)) refl r
   where
-    go : (x : Outcome Loaded) → opened s (length table) ≡ x → OpenedAs x (OpenedColumn c p) table after → (o : Loaded) × Opens s table after c p o
+    go : (x : Outcome Loaded) → opened s (length table) ≡ x → OpenedAs x (OpenedColumn c p) table after → (o : Loaded) × TableOpens s table after c p o
     go (value o) is r =
         let same : _≡_ {A = Column × Spelling} (c, p) (o .column, o .spelling) = value-same (r .answer) in
         (o, record { found = is; column = sym (ap (λ (a : Column × Spelling). a .0) same); spelling = sym (ap (λ (a : Column × Spelling). a .1) same); filled = r .table })
     go (refusal number also) is r = absurd (not-value (sym (r .answer)))
 
 -- reading a window with what the call left is the demands' reading
-pub reads : {s : List ℕ} {table after : List Block} {c : Column} {p : Spelling} {o : Loaded} → Opens s table after c p o → (w : Window) (r : ℕ) → rowAt (windowed c w) after s r ≡ answered (inWindow o w) table s r
+pub reads : {s : List ℕ} {table after : List Block} {c : Column} {p : Spelling} {o : Loaded} → TableOpens s table after c p o → (w : Window) (r : ℕ) → rowAt (windowed c w) after s r ≡ answered (inWindow o w) table s r
 reads {s} {table} {after} {c} {p} {o} e w r = rw (e .filled, ← (e .column))
 
 -- the rows of a column that was opened, and then narrowed any number of times, answer a value or 14
@@ -91,7 +91,7 @@ pub own-fits : (s : List ℕ) (table after : List Block) (c : Column) (p : Spell
 own-fits s table after c p opened-as d from r h =
     by-test (fits d (length after) (blockAt after (columnRow d r / 512)) s (columnRow d r)) refl
   where
-    o : (l : Loaded) × Opens s table after c p l
+    o : (l : Loaded) × TableOpens s table after c p l
     o = opens s table after c p opened-as
 
     never : rowAt d after s r ≡ refusal 13 [] → ⊥
@@ -211,7 +211,7 @@ differ-too r a b x y e f (inr both) =
     inr (row-injective a (NotRead (OutOfBounds r)) (e ∙ both .0), row-injective b (NotRead (OutOfBounds r)) (f ∙ both .1))
 
 -- demand 3, of the calls
-pub calls-tell : (s t : List ℕ) (table other after other-after : List Block) (c d : Column) (q r : Spelling) (o p : Loaded) → Opens s table after c q o → Opens t other other-after d r p → Alike s t o
+pub calls-tell : (s t : List ℕ) (table other after other-after : List Block) (c d : Column) (q r : Spelling) (o p : Loaded) → TableOpens s table after c q o → TableOpens t other other-after d r p → Alike s t o
     → Told s t after other-after c d o
 calls-tell s t table other after other-after c d q r o p e f alike =
     let told : RowsTell s t table other o p = demand3 .2 s t table other o p (e .found) (f .found) alike in

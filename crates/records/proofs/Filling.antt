@@ -17,7 +17,7 @@ use Rattle.format.specs.Outcome.{Outcome.value, stored}
 use Rattle.blockwise_linear.specs.declared.reader.Cursor.{Cursor}
 use Rattle.blockwise_linear.specs.declared.reader.Step.{Step}
 use Rattle.blockwise_linear.specs.Reader.{firstCursor, stepIn, blocksFrom, listed, Small, Good, Fillable}
-use Rattle.blockwise_linear.proofs.Passes.{step-less, Filling, filling-starts, filling-good, filling-more, filling-ends}
+use Rattle.blockwise_linear.proofs.Passes.{step-less, BlocksPut, filling-starts, filling-good, filling-more, filling-ends}
 use Rattle.walking.proofs.Data.{Fits}
 use Rattle.records.proofs.Types as Ty
 
@@ -27,7 +27,7 @@ module _ (ys : List Block) (bytes : List ℕ) (rows : ℕ) where
     pub c : Cursor
     pub l : List Block
     pub fits : Fits Ty.cursor c
-    pub filling : Filling bytes rows ys c k l
+    pub filling : BlocksPut bytes rows ys c k l
 
   abbrev pub begin : rows < 2 ^ 32 → Fillable bytes rows (length ys) → (c : Cursor) → c ≡ firstCursor bytes rows → Fits Ty.cursor c → State
   begin few fillable c e fits = record {

@@ -50,7 +50,7 @@ use Rattle.format.proofs.Writes.{written-as}
 use Rattle.format.proofs.TypedLookups.{row-words, covered-lookup, signed-covers, flag-covers, float-covers}
 use Rattle.format.proofs.TypedDemands.{returns-as, shortest-as, passes-as, tell-typed}
 use Rattle.format.specs.Calls.{OpenedAs, FoundAs, SerializedAs}
-use Rattle.records.proofs.Calls.{Opens, reads, written-of, front-of, by-sheet}
+use Rattle.records.proofs.Calls.{TableOpens, reads, written-of, front-of, by-sheet}
 
 -- ---- demand 2
 
@@ -172,7 +172,7 @@ module _ (c : Column) (table : List Block) (bytes : List ℕ) (first end : ℕ) 
 -- ---- demand 3
 
 -- of two byte strings that differ only inside the packed area, each opened by a call, a row of a window whose bits differ
-pub typed-tell : (s t : List ℕ) (table other after other-after : List Block) (c d : Column) (l m : Spelling) (o p : Loaded) → Opens s table after c l o → Opens t other other-after d m p → Alike s t o
+pub typed-tell : (s t : List ℕ) (table other after other-after : List Block) (c d : Column) (l m : Spelling) (o p : Loaded) → TableOpens s table after c l o → TableOpens t other other-after d m p → Alike s t o
     → (w : Window) → w .first + w .rows ≤ c .rows → (r : ℕ) → r < w .rows → (SameBits o s t (w .first + r) → ⊥)
     → (a b : RowRead) → rowMeaning a ≡ rowAt (windowed c w) after s r → rowMeaning b ≡ rowAt (windowed d w) other-after t r
     → TellAs r (rowMeaning a) (rowMeaning b)

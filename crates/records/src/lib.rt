@@ -56,7 +56,7 @@ fn block_of(column: Column, row: WindowRow) -> usize
     ensures { λ r. ⌜ r ≡ columnRow column (row .0) % 2 ^ 32 / 512 ⌝ }
 {
     let at = reading::reader::column_row(column.window.first, row);
-    blockwise_linear::reader::split(at).block
+    blockwise_rows::reader::split(at).block
 }
 
 // The value of a row of an opened column's window, with its table and its bytes.

@@ -1,8 +1,8 @@
 // A replay under way: a chunk comes with its block, whoever has the blocks. Found rows are compared with the recorded ones as they come, so no list is lent.
 ghost use mathlib.Core.Path.{_≡_};
-ghost use mathlib.Core.Bool.{Bool, true, false};
+ghost use mathlib.Core.Bool.{true, false};
 ghost use mathlib.Core.List.{List, _∷_, _++_};
-ghost use Prim.Native.Nat.{ℕ, _+_, _-_, _*_, _/_, _%_, _^_, _≤_, _<_, min};
+ghost use Prim.Native.Nat.{ℕ, _+_, _-_, _*_, _/_, _%_, _^_, _≤_, _<_};
 ghost use lib.ListN.{length};
 ghost use Rattle.format.specs.Outcome.{Outcome, Outcome.value, pick};
 ghost use Rattle.format.specs.Lookup.{within};
@@ -13,10 +13,6 @@ ghost use Rattle.format.specs.Runs.{readRun};
 ghost use Rattle.reading.specs.Chunks.{DecodedAs, chunkSize};
 ghost use Rattle.chunks.specs.Rows.{rowsAmong};
 ghost use Rattle.replaying.specs.Walking.{toCome, Onward, Going, OnHand, Replaying, left};
-use crate::parsing::header_of;
-use crate::parsing::is_recording;
-use crate::parsing::listed_at;
-use crate::parsing::record_at;
 use chunks::cut;
 use chunks::within;
 use format::Block;
@@ -27,6 +23,10 @@ use format::Refusal;
 use format::Replayed;
 use format::WindowRow;
 use reading::reader::Decoded;
+use recordings::header_of;
+use recordings::is_recording;
+use recordings::listed_at;
+use recordings::record_at;
 
 // Record k is at hand: its rows before `at` are done, and the first n recorded ones were found among them. While the replay is going on there are rows left; then its answer stands.
 pub struct Walk {
@@ -68,7 +68,7 @@ pub fn block_of(column: Column, w: Walk) -> usize
     ensures { λ r. ⌜ r ≡ columnRow column (w .at) % 2 ^ 32 / 512 ⌝ }
 {
     let row = reading::reader::column_row(column.window.first, WindowRow(w.at));
-    blockwise_linear::reader::split(row).block
+    blockwise_rows::reader::split(row).block
 }
 
 // Internal: asks that no more are met than recorded. One row with its value, of which n recorded rows came before: it is not looked for, it is the next recorded one, or it differs.

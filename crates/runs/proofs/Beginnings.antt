@@ -1,28 +1,24 @@
 -- How a run of rows begins, over any reading: it leaves the rows, has none, or is a walk.
 --     leaves, none, begins-run
 -- Assumes nothing.
-use Prim.Native.Nat.{ℕ, _+_, _-_, _%_, _<_, _≤_, min}
-use mathlib.Core.Path.{_≡_, refl, sym, ap, _∙_}
+use Prim.Native.Nat.{ℕ, _+_, _-_, _%_, _<_, _≤_}
+use mathlib.Core.Path.{_≡_, refl, sym, _∙_}
 use mathlib.Core.Bool.{Bool, true, false}
 use mathlib.Core.Logic.{inl}
-use mathlib.Core.List.{List, [], _∷_}
+use mathlib.Core.List.{List, []}
 use native.Mathlib.Omega.{arith}
-use lib.Dec.{ltb, leb}
+use lib.Dec.{leb}
 use lib.ListN.{length}
 use lib.Seq.{sets}
-use borrow.Author.Tests.{leb-true, ltb-true, ltb-false, le-leb, lt-leb}
+use borrow.Author.Tests.{leb-true, le-leb, lt-leb}
 use Rattle.format.specs.declared.Window.{Window}
 use Rattle.format.specs.declared.Refusal.the-variants.{NoSuchRow}
-use Rattle.format.specs.Lookup.{allRead, rowsPassing, lookedUp}
-use Rattle.format.specs.Outcome.{Outcome, Outcome.value, Outcome.refusal, _>>=_, _>>_, demand, pick}
+use Rattle.format.specs.Outcome.{Outcome, Outcome.value, Outcome.refusal, _>>=_, _>>_, pick}
 use Rattle.format.specs.Runs.{readRun, decoded}
 use Rattle.format.proofs.Runs.{run-long}
-use Rattle.chunks.specs.Rows.{rowsAmong}
-use Rattle.chunks.proofs.Rows.{all-run, all-refused, rows-run}
-use Rattle.walks.specs.declared.Walk.{Walk}
 use Rattle.walks.specs.declared.Walked.{Walked}
 use Rattle.walks.specs.declared.Walked.the-variants.{Entries, Refused}
-use Rattle.walks.specs.Walks.{Kept.allValues, Kept.rowsOf, kept, walked, WalkedAs, Passing, Walking}
+use Rattle.walks.specs.Walks.{Kept.allValues, kept, walked, WalkedAs, Passing}
 
 module _ (read : ℕ → Outcome ℕ) (window : Window) (first n : ℕ) (list : List ℕ) (long : length list ≡ n) where
   pub leaves : window .rows < first + n → WalkedAs (decoded read (window .rows) first n) (Refused NoSuchRow) list list

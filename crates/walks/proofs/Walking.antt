@@ -10,7 +10,7 @@
 use Prim.Native.Nat.{ℕ, suc, _+_, _-_, _/_, _%_, _^_, _<_, _≤_}
 use mathlib.Core.Path.{_≡_, refl, sym, ap, _∙_, subst}
 use mathlib.Core.Bool.{Bool, true, false}
-use mathlib.Core.Logic.{inl, inr, ⊎-elim}
+use mathlib.Core.Logic.{inr, ⊎-elim}
 use mathlib.Core.List.{List, [], _∷_, _++_}
 use native.Mathlib.Nat.{add-zero, zero-add, suc-add, add-suc}
 use native.Mathlib.Omega.{arith}
@@ -32,7 +32,7 @@ use Rattle.reading.specs.Chunks.{chunkSize}
 use Rattle.walks.specs.declared.Walk.{Walk}
 use Rattle.walks.specs.declared.Walked.{Walked}
 use Rattle.walks.specs.declared.Walked.the-variants.{Entries, Refused}
-use Rattle.walks.specs.Walks.{Kept, Kept.allValues, Kept.rowsOf, entries, kept, walked, WalkedAs, nextChunk, Going, left, Single, Found, Passing, Walking}
+use Rattle.walks.specs.Walks.{Kept, Kept.allValues, Kept.rowsOf, entries, kept, WalkedAs, nextChunk, Going, left, Single, Unrefused, Passing, Walking}
 use Rattle.chunks.proofs.Chunks.{chunk-to}
 use Rattle.chunks.proofs.Rows.{rows-few, rows-joined}
 
@@ -192,7 +192,7 @@ module _ (k : Kept) (read : ℕ → Outcome ℕ) {window : Window} {o : Outcome 
           sofar = ap (readRun read (w .first)) far ∙ longer;
           count = all-count;
           list-is = stored-so-far;
-          clean = λ (s : w .storing ≡ true). ⊎-elim (λ (one : Single (length before) w). absurd (omega (arith, one .one, chunk, h, f .going .to))) (λ (good : Found o). inr good) (f .clean s);
+          clean = λ (s : w .storing ≡ true). ⊎-elim (λ (one : Single (length before) w). absurd (omega (arith, one .one, chunk, h, f .going .to))) (λ (good : Unrefused o). inr good) (f .clean s);
         }
 
     -- the chunk is the last
@@ -218,7 +218,7 @@ module _ (k : Kept) (read : ℕ → Outcome ℕ) {window : Window} {o : Outcome 
           ⊎-elim
           (λ (one : Single (length before) w).
           all-kept (omega (arith, all-count, few k (w .first) (f .values ++ vs), run-long read (w .first) (w .end - w .first) (f .values ++ vs) all, one .enough)))
-          (λ (good : Found o). found ∙ held (leb (length (entries k (w .first) (f .values ++ vs))) (length before)) 15 (length (entries k (w .first) (f .values ++ vs)) ∷ []) (entries k (w .first) (f .values ++ vs)) (good .found) (sym found ∙ good .is))
+          (λ (good : Unrefused o). found ∙ held (leb (length (entries k (w .first) (f .values ++ vs))) (length before)) 15 (length (entries k (w .first) (f .values ++ vs)) ∷ []) (entries k (w .first) (f .values ++ vs)) (good .found) (sym found ∙ good .is))
           (f .clean e) in
           record {
             answer = ap value all-count ∙ rw is refl;
@@ -280,5 +280,5 @@ module _ (k : Kept) (read : ℕ → Outcome ℕ) {window : Window} {o : Outcome 
           let no-values : length (f .values) ≡ 0 = run-long read (w .first) (w .at - w .first) (f .values) (f .sofar) ∙ (omega (arith, one .begins)) in
           let no-entries : length (entries k (w .first) (f .values)) ≡ 0 = omega (arith, few k (w .first) (f .values)) in
           f .list-is ∙ rw (e, nothing (entries k (w .first) (f .values)) no-entries) refl)
-          (λ (good : Found o). absurd (not-value (sym is ∙ good .is)))
+          (λ (good : Unrefused o). absurd (not-value (sym is ∙ good .is)))
           (f .clean e)

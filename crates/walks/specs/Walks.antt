@@ -88,7 +88,7 @@ pub record Single (room : ℕ) (w : Walk) : Type 0 where
   pub enough : w .end - w .first ≤ room
 
 -- an outcome that is no refusal
-pub record Found (o : Outcome (List ℕ)) : Type 0 where
+pub record Unrefused (o : Outcome (List ℕ)) : Type 0 where
   pub found : List ℕ
   pub is : o ≡ value found
 
@@ -103,7 +103,7 @@ pub record Passing (k : Kept) (read : ℕ → Outcome ℕ) (window : Window) (o 
   pub sofar : readRun read (w .first) (w .at - w .first) ≡ value values
   pub count : w .n ≡ length (entries k (w .first) values)
   pub list-is : list ≡ pick (w .storing) (sets before 0 (entries k (w .first) values)) before
-  pub clean : w .storing ≡ true → Single (length before) w ⊎ Found o
+  pub clean : w .storing ≡ true → Single (length before) w ⊎ Unrefused o
 
 -- a walk under way, which is to find o: in a pass, or over
 pub record Walking (k : Kept) (read : ℕ → Outcome ℕ) (window : Window) (o : Outcome (List ℕ)) (before : List ℕ) (w : Walk) (list : List ℕ) : Type 0 where

@@ -47,7 +47,7 @@ fn row_of(w: Walk) -> ColumnRow
 pub fn block_of(w: Walk) -> usize
     ensures { λ r. ⌜ r ≡ (w .base + w .at) % 2 ^ 32 / 512 ⌝ }
 {
-    blockwise_linear::reader::split(row_of(w)).block
+    blockwise_rows::reader::split(row_of(w)).block
 }
 
 // Internal: asks for a walk that is going on. The rows of the chunk at hand.

@@ -1,4 +1,4 @@
--- `blockwise_linear::reader::footer_last` meets its contract. The loop's invariant is `Ending`; the measure is the blocks that are left.
+-- `blockwise_linear::reader::footer_last` meets its contract. The loop's invariant is `LastSoFar`; the measure is the blocks that are left.
 -- Assumes nothing.
 use mathlib.Core.Path.{sym, ap}
 use mathlib.Core.List.{List}
@@ -10,12 +10,12 @@ use Rattle.format.proofs.Outcomes.{told}
 use Rattle.line.specs.Meaning.{fieldsMeaning}
 use Rattle.blockwise_linear.specs.declared.reader.Cursor.{Cursor}
 use Rattle.blockwise_linear.specs.Reader.{upToLength}
-use Rattle.blockwise_linear.proofs.Lasts.{Ending, ending-starts, ending-more, ending-refused, ending-ends, last-refused, last-found}
+use Rattle.blockwise_linear.proofs.Lasts.{LastSoFar, ending-starts, ending-more, ending-refused, ending-ends, last-refused, last-found}
 use Rattle.blockwise_linear.proofs.reader.footer_last.Statement.{statement}
 use Rattle.blockwise_linear.proofs.reader.footer_last.Tie as tie
 
 abbrev Inv-loop : tie.InvT-loop
-Inv-loop bytes rows end start left₀ bits₀ at₀ left bits at = Ending (upToLength bytes) (blockCount rows) start left bits at
+Inv-loop bytes rows end start left₀ bits₀ at₀ left bits at = LastSoFar (upToLength bytes) (blockCount rows) start left bits at
 
 abbrev μ-loop : tie.MeasureT-loop
 μ-loop bytes rows end start left₀ bits₀ at₀ left bits at = left

@@ -1,0 +1,62 @@
+-- `blockwise_rows::reader::get_range` meets its contract: the part from the block's start on holds each row's number.
+-- Assumes nothing.
+use mathlib.Core.Path.{_∙_}
+use mathlib.Core.Logic.{inl, inr, ⊎-elim}
+use native.Mathlib.Omega.{arith}
+use denote.Ref.{now}
+use Rattle.format.proofs.Runs.{run-agree}
+use Rattle.format.proofs.Widths.{legal-most}
+use Rattle.blockwise_rows.proofs.Rows.{start-inside, row-is}
+use borrow.Author.Needs.{needs}
+use Rattle.blockwise_rows.proofs.reader.get_range.Statement.{statement}
+use Rattle.blockwise_rows.proofs.reader.get_range.Tie as tie
+
+numbers-start-requires : tie.Need-numbers-start-requires
+numbers-start-requires c κs =
+    let s = c .before .before in
+    ⊎-elim (λ none. inl none) (λ inside. inr (omega (arith, inside))) (s .pre .0 .start)
+
+sub-line-rows : tie.Need-sub-line-rows
+sub-line-rows c =
+    let s = c .before .before .before in
+    omega (arith, c .numbers-start .ensures, start-inside (s .args .column) (s .args .block) (now (s .args .bytes)) (s .pre .0))
+
+part-line-rows-start : tie.Need-part-line-rows-start
+part-line-rows-start c =
+    let s = c .before .before .before in
+    omega (arith, c .numbers-start .ensures, start-inside (s .args .column) (s .args .block) (now (s .args .bytes)) (s .pre .0))
+
+part-line-rows-end : tie.Need-part-line-rows-end
+part-line-rows-end c = search needs
+
+cast-line-rows : tie.Need-cast-line-rows
+cast-line-rows c =
+    let s = c .before .before .before .before .before in
+    record { fits = omega (arith, legal-most (s .args .block .bits) (s .pre .0 .lawful)) }
+
+line-rows-requires : tie.Need-line-rows-requires
+line-rows-requires c κs = search needs
+
+same-length : tie.Need-same-length
+same-length c = search needs
+
+returns : tie.Need-returns
+returns c =
+    let k = c .before .before in
+    let n = k .before .before .before .before in
+    let s = n .before .before .before in
+    k .line-rows .ensures
+    ∙ run-agree _ _ _ _ (λ r low high. row-is (s .args .column) (s .args .block) (now (s .args .bytes)) r (s .pre .0 .codec) (n .numbers-start .ensures))
+
+pub get-range-spec : {M : Type 1} → statement M
+get-range-spec =
+    tie.close
+    (tie.spec
+    numbers-start-requires
+    sub-line-rows
+    part-line-rows-start
+    part-line-rows-end
+    cast-line-rows
+    line-rows-requires
+    same-length
+    returns)

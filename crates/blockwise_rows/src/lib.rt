@@ -1,0 +1,2 @@
+// The rows of a Blockwise column, each by its block.
+pub mod reader;
