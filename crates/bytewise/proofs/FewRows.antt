@@ -20,15 +20,12 @@ use Rattle.format.specs.Listing.{openedHere}
 use Rattle.format.specs.Outcome.{Outcome.value, _>>_, demand, pick}
 use Rattle.format.specs.Packing.{width, legal}
 use Rattle.format.specs.Parts.{Run, runOwners, blockRun, orElse, blockOwners, areaOwners, ownersAt}
+use Rattle.format.proofs.Tests.{and-right}
 use Rattle.explaining.specs.Bytes.{fitsAt}
 use Rattle.owning.specs.Bytes.{rowsOf}
 use Rattle.owning.proofs.Runs.{wide-run}
 use Rattle.tableless.specs.Own.{tableOf}
 use Rattle.bytewise.specs.Owners.{ownersIn, ownersFound, Few}
-
-and-right : (a b : Bool) → (a && b) ≡ true → b ≡ true
-and-right true b e = e
-and-right false b e = absurd (let z : _≡_ {A = ℕ} 0 1 = cc in omega arith)
 
 -- seven bits further lie at most seven rows
 seven : (bit w : ℕ) → 0 < w → (bit / w ≤ (bit + 7) / w) × ((bit + 7) / w < bit / w + 8)

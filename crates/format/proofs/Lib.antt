@@ -2,6 +2,7 @@
 
 -- what all laws stand on
 pub mod Lists
+pub mod Tests
 pub mod Outcomes
 pub mod Answers
 -- the small pieces

@@ -34,6 +34,7 @@ use Rattle.format.specs.Reading.{placeIn, blockAt}
 use Rattle.format.specs.Parts.{Run, runOwners, blockRun, orElse, blockOwners, areaOwners, ownersAt}
 use Rattle.format.specs.Demands.{filledBy}
 use Rattle.format.specs.Blame.{Named, Owned, AllOwned}
+use Rattle.format.proofs.Tests.{and-left, and-right}
 use Rattle.format.proofs.Lists.{below-or}
 use Rattle.format.proofs.Widths.{width-legal}
 use Rattle.format.proofs.LineFields.{fields-read}
@@ -46,14 +47,6 @@ abbrev pub Has : (a w q i : ℕ) → Type 0
 Has a w q i = (k : ℕ) × (8 * i ≤ k) × (k < 8 * i + 8) × ((8 * a + q * w ≤ k) × (k < 8 * a + q * w + w))
 
 -- ---- the rows of one run
-
-and-left : (a b : Bool) → (a && b) ≡ true → a ≡ true
-and-left true b e = refl
-and-left false b e = e
-
-and-right : (a b : Bool) → (a && b) ≡ true → b ≡ true
-and-right true b e = e
-and-right false b e = absurd (let z : _≡_ {A = ℕ} 0 1 = cc in omega arith)
 
 -- a product that is some has factors that are
 some-factor : (a b : ℕ) → 0 < a * b → 0 < b

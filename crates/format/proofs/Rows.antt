@@ -7,7 +7,7 @@
 -- Assumes nothing.
 use Prim.Native.Nat.{ℕ, _+_, _-_, _*_, _/_, _%_, _^_, _≤_, _<_}
 use mathlib.Core.Path.{_≡_, refl, sym, ap, _∙_, subst}
-use mathlib.Core.Bool.{Bool, true, false, _&&_, _||_}
+use mathlib.Core.Bool.{Bool, true, false, _&&_}
 use mathlib.Core.Logic.{_⊎_, inl, inr}
 use mathlib.Core.List.{List, [], _∷_}
 use native.Mathlib.Nat.{eq-of-mul-eq-mul-left, pow-le-pow-right}
@@ -30,6 +30,7 @@ use Rattle.format.specs.Opening.{Loaded, opened}
 use Rattle.format.specs.Reading.{columnRow, placeIn, placeOf, noBlock, blockAt, hasBlock, columnFits, rowFits, fits, packedOf, valueIn, valueAt, askedAs, rowIn, rowAt}
 use Rattle.format.specs.Windows.{windowed, inWindow}
 use Rattle.format.specs.Demands.{filledBy, answered, LiesIn, Owns, SameBits, Differ}
+use Rattle.format.proofs.Tests.{or-true}
 use Rattle.format.proofs.Outcomes.{told-apart}
 use Rattle.format.proofs.Packing.{unpack-below, locality, row-bits, bitAt-drop}
 use Rattle.format.proofs.Widths.{legal-most}
@@ -67,10 +68,6 @@ pub filled-row : (o : Loaded) (table : List Block) (s : List ℕ) (r : ℕ) → 
 filled-row o table s r fit there = filled-reading (o .column) (o .column .codec) refl table (o .table) s r fit there
 
 -- ---- a row of an opened column
-
-pub or-true : (t : Bool) → (t || true) ≡ true
-or-true true = refl
-or-true false = refl
 
 -- the value of a row of the column, by its packed number
 abbrev pub valueOf : Loaded → (s : List ℕ) (q : ℕ) → Outcome ℕ

@@ -28,7 +28,7 @@ use Rattle.format.specs.Outcome.{Outcome, Outcome.value, Outcome.refusal
 use Rattle.format.specs.Reading.{columnRow, windowFits, columnFits, rowFits, fits, packedOf, blockAt, scaled, valueIn, valueAt, askedAs, rowIn, rowAt}
 use Rattle.format.specs.Lookup.{passes, rowsPassing, lookedUp, within}
 use Rattle.format.specs.Typed.{Reading, Keeps, Covers, between, signeds, flags, floats, signedRange, flagRange, floatRange, storedSigned, signedOf, storedFlag, flagOf, storedFloat}
-use Rattle.format.proofs.Rows.{or-true}
+use Rattle.format.proofs.Tests.{or-true}
 use Rattle.format.proofs.Lists.{below-or}
 use Rattle.format.proofs.Outcomes.{not-value, by-demand, value-same}
 use Rattle.format.proofs.Runs.{scaled-below}

@@ -1,7 +1,7 @@
 // Which rows own a bit of a byte: a search, block after block. The blocks are fetched by whoever searches; here a block comes by value.
 ghost use mathlib.Core.Path.{_≡_};
 ghost use mathlib.Core.List.{List};
-ghost use Prim.Native.Nat.{ℕ, _+_, _-_, _*_, _^_, _<_, min};
+ghost use Prim.Native.Nat.{_+_, _-_, _*_, _^_, _<_, min};
 ghost use Rattle.format.specs.Packing.{legal};
 ghost use Rattle.format.specs.Reading.{blockAt};
 ghost use Rattle.format.specs.Parts.{runOwners};

@@ -27,6 +27,7 @@ use Rattle.format.specs.Outcome.{Outcome, Outcome.value, Outcome.refusal, _>>_,
 use Rattle.format.specs.Refusals.{numbered, replayedMeaning}
 use Rattle.format.specs.Replaying.{headerOf, recordAt, sameRows, areRows, foundAre, agrees, firstDiffering, reported, isRecording, replayed}
 use Rattle.format.specs.Runs.{readRun}
+use Rattle.format.proofs.Tests.{when, unless, as-when, as-unless}
 use Rattle.chunks.specs.Rows.{rowsAmong}
 use Rattle.replaying.proofs.Behind.{all-behind, all-stops, all-none, rows-behind, rows-none}
 use Rattle.replaying.specs.declared.walking.Walk.{Walk}
@@ -127,23 +128,6 @@ begins read rows s {h} is sound =
     record { header = is; sound = sound; rest = ap (firstDiffering (agrees read rows h s) 0) all }
 
 -- ---- the phase
-
--- one of two statements by a test that is known
-as-when : (A B : Type 0) (t : Bool) → t ≡ true → A → pick t A B
-as-when A B true e x = x
-as-when A B false e x = let z : _≡_ {A = ℕ} 0 1 = cc in absurd (omega arith)
-
-as-unless : (A B : Type 0) (t : Bool) → t ≡ false → B → pick t A B
-as-unless A B false e x = x
-as-unless A B true e x = let z : _≡_ {A = ℕ} 0 1 = cc in absurd (omega arith)
-
-when : (A B : Type 0) (t : Bool) → t ≡ true → pick t A B → A
-when A B true e x = x
-when A B false e x = let z : _≡_ {A = ℕ} 0 1 = cc in absurd (omega arith)
-
-unless : (A B : Type 0) (t : Bool) → t ≡ false → pick t A B → B
-unless A B false e x = x
-unless A B true e x = let z : _≡_ {A = ℕ} 0 1 = cc in absurd (omega arith)
 
 module _ (read : ℕ → Outcome ℕ) (rows : ℕ) (s : List ℕ) (w : Walk) where
   abbrev Over : Type 0

@@ -17,7 +17,6 @@ use native.Mathlib.Nat.{mul-comm}
 use native.Mathlib.Omega.{arith}
 use borrow.Author.Tests.{ne-eqb}
 use lib.ListN.{length, take, drop}
-use Rattle.format.specs.declared.Checked.{Checked}
 use Rattle.format.specs.declared.Checked.the-variants.{Unopened, Counts}
 use Rattle.format.specs.declared.Column.{Column}
 use Rattle.format.specs.declared.Opened.{Opened}

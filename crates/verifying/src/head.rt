@@ -4,7 +4,6 @@ ghost use Prim.Native.Nat.{_+_, _*_, _^_, _<_};
 ghost use lib.ListN.{length};
 ghost use Rattle.format.specs.Checking.{judgedHead};
 ghost use Rattle.format.specs.Refusals.{checkedMeaning};
-ghost use Rattle.format.specs.Stats.{statsOf};
 ghost use Rattle.format.specs.Typed.{storedAs};
 ghost use Rattle.verifying.specs.Walks.{verdict};
 use crate::rows::Walk;

@@ -28,6 +28,7 @@ use Rattle.format.specs.Refusals.{numbered, paper}
 use Rattle.format.specs.Runs.{readRun}
 use Rattle.format.proofs.Outcomes.{not-value}
 use Rattle.format.proofs.Runs.{run-long, run-after, run-refused}
+use Rattle.format.proofs.Tests.{when, unless, as-unless}
 use Rattle.reading.specs.Chunks.{chunkSize}
 use Rattle.walks.specs.declared.Walk.{Walk}
 use Rattle.walks.specs.declared.Walked.{Walked}
@@ -85,19 +86,6 @@ module _ (w : Walk) (g : Going w) where
       by-pass false = omega (arith, g .to)
 
 -- ---- the phase
-
--- one of two statements by a test that is known
-when : (A B : Type 0) (t : Bool) → t ≡ true → pick t A B → A
-when A B true e x = x
-when A B false e x = let z : _≡_ {A = ℕ} 0 1 = cc in absurd (omega arith)
-
-unless : (A B : Type 0) (t : Bool) → t ≡ false → pick t A B → B
-unless A B false e x = x
-unless A B true e x = let z : _≡_ {A = ℕ} 0 1 = cc in absurd (omega arith)
-
-as-unless : (A B : Type 0) (t : Bool) → t ≡ false → B → pick t A B
-as-unless A B false e x = x
-as-unless A B true e x = let z : _≡_ {A = ℕ} 0 1 = cc in absurd (omega arith)
 
 module _ {k : Kept} {read : ℕ → Outcome ℕ} {window : Window} {o : Outcome (List ℕ)} {before list : List ℕ} {w : Walk} where
   -- a walk that is over has its answer
