@@ -45,9 +45,8 @@ fn write_blame(left: &[u8], right: &[u8]) {
 }
 
 fn main() {
-    // One byte more than a blame takes on each side, so that a longer column is told by its length.
-    let mut left = [0u8; 65537];
-    let mut right = [0u8; 65537];
+    let mut left = files::column_room();
+    let mut right = files::column_room();
     let n = files::read_named(1, &mut left);
     let m = files::read_named(2, &mut right);
     write_blame(&left[..n], &right[..m]);

@@ -35,8 +35,7 @@ fn write_explanation(bytes: &[u8]) {
 }
 
 fn main() {
-    // One byte more than an explanation takes, so that a longer column is told by its length.
-    let mut bytes = [0u8; 65537];
+    let mut bytes = files::column_room();
     let n = io::read_full(STDIN_FILENO, &mut bytes);
     write_explanation(&bytes[..n]);
 }
