@@ -1,5 +1,5 @@
 -- A check of the calls' own: its table, and its list.
---     through             a lent table that was filled answers the column's rows as the opening's own numbers do
+--     through             a lent table that was filled answers the column's rows as the opening's own blocks do
 --     numbers-checked     a list of numbers
 -- Assumes nothing.
 use Prim.Native.Nat.{ℕ, _<_}

@@ -92,7 +92,7 @@ module _ {s : List ℕ} {c : Column} {o : Loaded} (e : Owns s c o) where
         let here : r / 512 ≡ columnRow c r % 2 ^ 32 / 512 = omega (arith, first-row, rows-few) in
         rw (← here, has, ← e .column) (pass-block s (e .room) o (e .found) (laid .head .few) r (rw (e .column) inside))
 
-    -- a chunk with the block that a pass stands at is a chunk by the opening's own numbers
+    -- a chunk with the block that a pass stands at is a chunk by the opening's own blocks
     own-stretch : (r n : ℕ) {p : Pass} {a : Stretch} {old new : List ℕ} → c .rows ≡ n → p ≡ passed s rows (min (r / 512 + 1) (blockCount rows))
         → StretchAs (rowIn c (blockCount rows) (p .block) s) r (chunkSize (columnRow c r) (c .window .rows - r)) a old new → StretchAs (rowAt c (o .table) s) r (chunkSize r (n - r)) a old new
     own-stretch r n {p} long at chunk =
@@ -177,7 +177,7 @@ module _ (sheet : ℕ) (s : List ℕ) (room : ℕ) (vs : List ℕ) {a : Opened} 
           cc
 
   module _ {c : Column} {p : Spelling} (told : a ≡ OpenedColumn c p) where
-    -- the verdict on the rows, by the opening's own numbers
+    -- the verdict on the rows, by the opening's own blocks
     on-rows : (o : Loaded) → Stands sheet s room c o → checked (openedUnder sheet s room) s vs ≡ judged (rowAt c (o .table) s) c vs
     on-rows o e = ap (λ (x : Outcome Loaded). checked x s vs) (e .under) ∙ ap (λ (k : Column). judged (rowAt k (o .table) s) k vs) (e .owns .column)
 
