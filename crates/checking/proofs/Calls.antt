@@ -35,7 +35,8 @@ use Rattle.format.proofs.Demand2.{demand2, written-passes}
 use Rattle.format.proofs.Lookups.{looked-agree}
 use Rattle.format.proofs.StoredLists.{stored-length, stored-words}
 use Rattle.format.proofs.Writes.{written-as}
-use Rattle.records.proofs.Calls.{written-of, front-of, by-sheet}
+use Rattle.format.proofs.Stores.{front-of}
+use Rattle.records.proofs.Calls.{written-of, by-sheet}
 use Rattle.sheets.proofs.SheetNumbers.{accepted}
 use Rattle.checking.specs.Checked.{CheckedAs}
 use Rattle.checking.proofs.Tables.{through}

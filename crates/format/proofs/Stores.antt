@@ -1,6 +1,7 @@
 -- Stores into a lent list, and a list's rest lent on: what every writer cites.
 --     sets-append, wrote-then      two runs of stores, one behind the other, are one
 --     sets-apart                   two runs of stores that lie apart may change places
+--     stores-front, front-of       what a run of stores left at a list's front
 --     rest-is, rest-room           the rest of a list from an offset on, as it is lent to a call, and its room
 --     rest-back, rest-wrote        the whole list after a call that filled the front of its rest
 -- Assumes nothing.
@@ -10,7 +11,7 @@ use Prim.Native.Nat.{ℕ, suc, _+_, _-_, _≤_, _<_}
 use native.Mathlib.Nat.{add-zero, add-suc, suc-add}
 use native.Mathlib.Omega.{arith}
 use lib.ListN.{length, take, drop, set, length-append, length-drop, drop-of-length-le}
-use lib.Seq.{sets, sets-eq, set-comm, take-all, drop-drop}
+use lib.Seq.{sets, sets-eq, set-comm, take-all, take-at, drop-drop}
 use Rattle.format.specs.Outcome.{Wrote}
 
 -- ---- runs of stores
@@ -38,6 +39,14 @@ sets-apart [] l i j ys h = refl
 sets-apart (x ∷ xs) l i j ys h = sets-apart xs (set l i x) (suc i) j ys (omega arith) ∙ ap (λ (m : List ℕ). sets m (suc i) xs) (set-past ys l i j x (omega arith))
 
 -- ---- a list's rest from an offset on, lent to a call
+
+-- what was stored at a list's front is its front
+pub stores-front : (old xs : List ℕ) → length xs ≤ length old → take (length xs) (sets old 0 xs) ≡ xs
+stores-front old xs h = rw (sets-eq xs old 0 (omega arith)) (take-at xs (drop (0 + length xs) old) (length xs) refl)
+
+-- the same of what is told to be so long, and the list to be left so
+pub front-of : (out after bytes : List ℕ) (n : ℕ) → n ≡ length bytes → after ≡ sets out 0 bytes → length bytes ≤ length out → take n after ≡ bytes
+front-of out after bytes n e f h = rw (e, f) (stores-front out bytes h)
 
 -- the rest, as it is lent
 pub rest-is : (at : ℕ) (l : List ℕ) → take (length l - at) (drop at l) ≡ drop at l

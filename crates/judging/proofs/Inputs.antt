@@ -22,7 +22,7 @@ use Rattle.format.specs.Word.{AllBelow}
 use Rattle.format.proofs.Gathering.{bytesNum-below, unpack-word}
 use Rattle.format.proofs.Lists.{all-drop}
 use Rattle.format.proofs.Outcomes.{by-demand, not-value, value-same}
-use Rattle.records.proofs.Calls.{front-of}
+use Rattle.format.proofs.Stores.{front-of}
 use Rattle.judging.specs.declared.given.Taken.{Taken}
 use Rattle.judging.specs.declared.given.Taken.the-variants.{Values, Refused as NotTaken}
 use Rattle.judging.specs.Given.{digitSheet, sheetFrom, words, valuesIn, takenMeaning, TakenAs}

@@ -1,6 +1,6 @@
 -- The demands, of the calls' own answers: from the contracts of `serialize`, `open`, `row` and `lookup`, and the theorems of `format`.
 --     TableOpens, opens                       what an answer of `open` that is a column comes from
---     reads, written-of, front-of        what a call left is what was found
+--     reads, written-of                  what a call left is what was found
 --     own-rows, own-fits                 a column that was opened and narrowed answers its own rows with a value or 14: never 12, never 13; it fits together with its own bytes and table
 --     Shows, Returned, calls-return      demand 2: what was written opens, and through any window in it `row` and `lookup` give the values back
 --     by-sheet, calls-pass               .. under either sheet
@@ -12,8 +12,8 @@ use mathlib.Core.Logic.{_⊎_, inl, inr, ⊎-elim}
 use mathlib.Core.List.{List, []}
 use mathlib.Core.Bool.{Bool, true, false}
 use native.Mathlib.Omega.{arith}
-use lib.ListN.{length, take, drop, getD}
-use lib.Seq.{sets, sets-eq, take-at}
+use lib.ListN.{length, take, getD}
+use lib.Seq.{sets}
 use borrow.Author.Tests.{lt-ltb}
 use Rattle.format.specs.declared.Block.{Block}
 use Rattle.format.specs.declared.Column.{Column}
@@ -44,6 +44,7 @@ use Rattle.format.proofs.Windows.{NarrowedFrom, own-windows, never-unfit}
 use Rattle.format.proofs.Writes.{written-as}
 use Rattle.format.proofs.Demand2.{demand2, written-shortest, written-passes}
 use Rattle.format.proofs.Demand3.{demand3}
+use Rattle.format.proofs.Stores.{front-of}
 use Rattle.format.specs.Calls.{FoundAs, OpenedAs, SerializedAs}
 
 -- ---- opening
@@ -154,10 +155,6 @@ returned vs cs bytes table after room each e enough a opened-as =
       all = shows vs bytes table after o left (g .2);
       windows = λ w inside. shows (shown w vs) bytes table after (inWindow o w) left (g .3 w inside);
     }
-
--- a column at an output's front
-pub front-of : (out after bytes : List ℕ) (n : ℕ) → n ≡ length bytes → after ≡ sets out 0 bytes → length bytes ≤ length out → take n after ≡ bytes
-front-of out after bytes n e f h = rw (e, f, sets-eq bytes out 0 (omega arith)) (take-at bytes (drop (0 + length bytes) out) (length bytes) refl)
 
 -- demand 2, of the calls: what `serialize` wrote, opened with any table that has room, gives back the list
 pub calls-return : (vs cs out written-out : List ℕ) (n : ℕ) → AllBelow (2 ^ 64) vs → SerializedAs (written vs cs (length out)) (Length n) out written-out

@@ -49,8 +49,9 @@ use Rattle.format.proofs.Answers.{opened-injective, signed-injective, flag-inje
 use Rattle.format.proofs.Writes.{written-as}
 use Rattle.format.proofs.TypedLookups.{row-words, covered-lookup, signed-covers, flag-covers, float-covers}
 use Rattle.format.proofs.TypedDemands.{returns-as, shortest-as, passes-as, tell-typed}
+use Rattle.format.proofs.Stores.{front-of}
 use Rattle.format.specs.Calls.{OpenedAs, FoundAs, SerializedAs}
-use Rattle.records.proofs.Calls.{TableOpens, reads, written-of, front-of, by-sheet}
+use Rattle.records.proofs.Calls.{TableOpens, reads, written-of, by-sheet}
 
 -- ---- demand 2
 

@@ -17,7 +17,7 @@ use native.Mathlib.Omega.{arith}
 use borrow.Author.Tests.{lt-ltb, le-ltb, le-leb, ltb-true, leb-true, eq-eqb}
 use lib.Dec.{ltb, leb}
 use lib.ListN.{length, take, drop, getD, length-take, length-drop, drop-of-length-le}
-use lib.Seq.{sets, length-sets, sets-eq, take-at, drop-drop}
+use lib.Seq.{length-sets, drop-drop}
 use Rattle.format.specs.declared.Column.{Column}
 use Rattle.format.specs.declared.Kind.{Kind}
 use Rattle.format.specs.Checking.{Reason.unequal, Verdict.failed, firstUnequal, byRow, judgedHead, judged}
@@ -25,6 +25,7 @@ use Rattle.format.specs.Outcome.{Outcome, Outcome.value, Outcome.refusal, pick}
 use Rattle.format.specs.Stats.{statsOf}
 use Rattle.format.specs.Typed.{storedIn, storedAs}
 use Rattle.format.proofs.Lists.{below-or, drop-map}
+use Rattle.format.proofs.Stores.{stores-front}
 use Rattle.chunks.specs.declared.taking.Stretch.{Stretch}
 use Rattle.reading.specs.Chunks.{chunkSize}
 use Rattle.chunks.specs.Stretch.{leading, stretch, counted, StretchAs}
@@ -36,10 +37,6 @@ use Rattle.verifying.proofs.Fronts.{front-most, skip-front, stop-front,
 -- a list that a chunk was read into keeps its length
 pub stretch-kept : {read : ℕ → Outcome ℕ} {r n : ℕ} {a : Stretch} {old new : List ℕ} → StretchAs read r n a old new → length new ≡ length old
 stretch-kept {read} {r} {n} {a} {old} f = ap length (f .list) ∙ length-sets old 0 (stretch read r n)
-
--- what a chunk left at the front of a list
-front-of : (old xs : List ℕ) → length xs ≤ length old → take (length xs) (sets old 0 xs) ≡ xs
-front-of old xs h = rw (sets-eq xs old 0 (omega arith)) (take-at xs (drop (0 + length xs) old) (length xs) refl)
 
 -- two tests that are passed
 both-true : (t u : Bool) → (t && u) ≡ true → (t ≡ true) × (u ≡ true)
@@ -121,7 +118,7 @@ module _ (read : ℕ → Outcome ℕ) where
 
     stepped : {a : Stretch} {old new : List ℕ} → length old ≡ 512 → StretchAs read (w .at) (chunkSize (w .at) (length vs - w .at)) a old new
         → Walking read vs (behind (counted a) (sameFront (take (counted a) new) (drop (w .at) vs)) w)
-    stepped {a} {old} {new} room chunk = rw (chunk .count, chunk .list, front-of old values (omega (arith, small))) (record {
+    stepped {a} {old} {new} room chunk = rw (chunk .count, chunk .list, stores-front old values (omega (arith, small))) (record {
       inside = omega (arith, front-most values (drop (w .at) vs) .1, length-drop (w .at) vs, f .inside);
       onward = f .onward ∙ skip-front read (w .at) values (drop (w .at) vs) each ∙ ap (firstUnequal read (w .at + same)) here;
       over = λ stops.
@@ -134,7 +131,7 @@ module _ (read : ℕ → Outcome ℕ) where
 
     less : {a : Stretch} {old new : List ℕ} → w .going ≡ true → length old ≡ 512 → StretchAs read (w .at) (chunkSize (w .at) (length vs - w .at)) a old new
         → left (length vs) (behind (counted a) (sameFront (take (counted a) new) (drop (w .at) vs)) w) < left (length vs) w
-    less {a} {old} {new} on room chunk = rw (chunk .count, chunk .list, front-of old values (omega (arith, small)), on) (by (ltb 0 (length values) && leb (length values) same) refl)
+    less {a} {old} {new} on room chunk = rw (chunk .count, chunk .list, stores-front old values (omega (arith, small)), on) (by (ltb 0 (length values) && leb (length values) same) refl)
       where
         by : (t : Bool) → (ltb 0 (length values) && leb (length values) same) ≡ t → pick t (suc (length vs - (w .at + same))) 0 < suc (length vs - w .at)
         by false e = omega arith
