@@ -1,10 +1,9 @@
 -- How a blame begins, from what both openings found and the line that was written.
---     column-found, refused-found      what opening found, from its answer
---     begun-only, begun-both           with the only line; with both columns
---     begun-opens                      those are columns that were opened of their bytes
+--     begun-only, begun-both      with the only line; with both columns
+--     begun-opens                 those are columns that were opened of their bytes
 -- Assumes nothing.
 use Prim.Native.Nat.{ℕ}
-use mathlib.Core.Path.{_≡_, refl, sym, ap, _∙_}
+use mathlib.Core.Path.{_≡_, refl, ap, _∙_}
 use mathlib.Core.Bool.{Bool, true, false}
 use mathlib.Core.List.{List}
 use native.Mathlib.Nat.{zero-add}
@@ -13,18 +12,11 @@ use lib.Dec.{eqb}
 use lib.ListN.{length}
 use Rattle.io.specs.Counts.{Counts}
 use Rattle.format.specs.declared.Column.{Column}
-use Rattle.format.specs.declared.Opened.{Opened}
-use Rattle.format.specs.declared.Opened.the-variants.{Column as OpenedColumn, Refused}
-use Rattle.format.specs.declared.Refusal.{Refusal}
-use Rattle.format.specs.declared.Spelling.{Spelling}
 use Rattle.format.specs.Listing.{openedHere}
-use Rattle.format.specs.Opening.{Loaded, columnIn}
+use Rattle.format.specs.Opening.{Loaded}
 use Rattle.format.specs.Outcome.{Outcome, Outcome.value, Outcome.refusal, pick, Wrote}
-use Rattle.format.specs.Refusals.{openedMeaning}
-use Rattle.format.proofs.Outcomes.{not-value, value-same}
 use Rattle.explaining.specs.Bytes.{partOf}
 use Rattle.tableless.specs.Own.{Opens}
-use Rattle.text.specs.Refused.{refusedBy}
 use Rattle.text.proofs.Texts.{counts}
 use Rattle.blaming.specs.declared.Begun.the-variants.{Columns, Line}
 use Rattle.bytewise.specs.declared.fields.Field.{Field}
@@ -32,27 +24,6 @@ use Rattle.bytewise.specs.declared.fields.Field.the-variants.{At, Nothing}
 use Rattle.bytewise.specs.Fields.{firstField}
 use Rattle.blaming.specs.Bytes.{lengthsLine}
 use Rattle.blaming.specs.Beginning.{Start, Start.both, Start.only, startsWith, starts, begun, BegunAs}
-
-pub column-found : (s : List ℕ) {r : Opened} {c : Column} {a : Spelling} → openedMeaning r ≡ columnIn (openedHere s) → r ≡ OpenedColumn c a → Opens s c
-column-found s {r} {c} {a} means is = go (openedHere s) refl (sym (ap openedMeaning is) ∙ means)
-  where
-    go : (o : Outcome Loaded) → openedHere s ≡ o → openedMeaning (OpenedColumn c a) ≡ columnIn o → Opens s c
-    go (refusal number also) found e = absurd (not-value (sym e))
-    go (value u) found e = record { found = u; opened = found; column = sym (ap (λ (b : Column × Spelling). b .0) (value-same e)) }
-
--- an answer with a refusal: by its number
-pub record Refuses (s : List ℕ) (number : ℕ) : Type 0 where
-  pub also : List ℕ
-  pub is : openedHere s ≡ refusal number also
-
-pub refused-found : (s : List ℕ) {r : Opened} {x : Refusal} {number : ℕ} → openedMeaning r ≡ columnIn (openedHere s) → r ≡ Refused x → number ≡ refusedBy (openedMeaning r) → Refuses s number
-refused-found s {r} {x} {number} means is by = go (openedHere s) refl means
-  where
-    go : (o : Outcome Loaded) → openedHere s ≡ o → openedMeaning r ≡ columnIn o → Refuses s number
-    go (value u) found e = absurd (not-value (sym (ap openedMeaning is) ∙ e))
-    go (refusal n more) found e =
-        let same : n ≡ number = sym (by ∙ ap refusedBy e) in
-        record { also = more; is = found ∙ ap (λ (k : ℕ). refusal k more) same }
 
 pub begun-only : {b : Start} {l old new : List ℕ} {n : ℕ} → b ≡ only l → Wrote old 0 l new n → Counts n new → BegunAs b (Line n) old new
 begun-only {b} {l} {old} {new} {n} is wrote shown =

@@ -11,6 +11,7 @@ use lib.ListN.{length, getD}
 use Rattle.format.specs.declared.Column.{Column}
 use Rattle.format.specs.declared.PartName.{PartName}
 use Rattle.format.specs.Listing.{ascii, namedLine, openedHere}
+use Rattle.format.specs.Outcome.{Outcome.refusal}
 use Rattle.explaining.specs.Bytes.{partOf}
 use Rattle.tableless.specs.Own.{ownRow, Opens}
 use Rattle.bytewise.specs.declared.fields.Field.the-variants.{At, Nothing}
@@ -18,7 +19,6 @@ use Rattle.blaming.specs.Beginning.{starts, Start.both, Start.only}
 use Rattle.bytewise.specs.Fields.{firstField}
 use Rattle.bytewise.specs.Owners.{ownersFound}
 use Rattle.blaming.specs.Bytes.{lengthsLine, fieldLine, byteLine, ownersText, textAt}
-use Rattle.blaming.proofs.Beginnings.{Refuses}
 
 module _ (col : Column) (s : List ℕ) (against : Column) (t : List ℕ) (i : ℕ) where
   pub text-same : eqb (getD s i 0) (getD t i 0) ≡ true → textAt col s against t i ≡ []
@@ -31,12 +31,12 @@ module _ (col : Column) (s : List ℕ) (against : Column) (t : List ℕ) (i : �
   text-differs e = rw e
 
 module _ (s t : List ℕ) where
-  pub starts-left : {number : ℕ} → Refuses s number → starts (openedHere s) (openedHere t) s t ≡ only (namedLine (ascii "left refused ") number)
-  starts-left r = rw (r .is)
+  pub starts-left : {number : ℕ} {also : List ℕ} → openedHere s ≡ refusal number also → starts (openedHere s) (openedHere t) s t ≡ only (namedLine (ascii "left refused ") number)
+  starts-left r = rw r
 
   module _ {c : Column} (u : Opens s c) where
-    pub starts-right : {number : ℕ} → Refuses t number → starts (openedHere s) (openedHere t) s t ≡ only (namedLine (ascii "right refused ") number)
-    starts-right r = rw (u .opened, r .is)
+    pub starts-right : {number : ℕ} {also : List ℕ} → openedHere t ≡ refusal number also → starts (openedHere s) (openedHere t) s t ≡ only (namedLine (ascii "right refused ") number)
+    starts-right r = rw (u .opened, r)
 
     module _ {d : Column} (w : Opens t d) where
       pub starts-lengths : eqb (length s) (length t) ≡ false → starts (openedHere s) (openedHere t) s t ≡ only (lengthsLine (length s) (length t))

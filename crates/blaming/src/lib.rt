@@ -24,8 +24,7 @@ use bytewise::fields::Field;
 use format::Column;
 use format::Opened;
 use tableless::opening;
-use text::lines::named_line;
-use text::lines::refusal_number;
+use text::lines::refused_line;
 
 // The longest text of a byte.
 const BLAME_MAX: usize = 512;
@@ -69,8 +68,7 @@ fn begin_right(column: Column, left: &[u8], right: &[u8], line: &mut [u8; 128]) 
 {
     let opened = opening::open_plain(right);
     let Opened::Column(against, _) = opened else {
-        let number = refusal_number(opened) as u64;
-        return Begun::Line(named_line(b"right refused ", number, line));
+        return Begun::Line(refused_line(b"right refused ", opened, line));
     };
     begin_both(column, left, against, right, line)
 }
@@ -82,8 +80,7 @@ pub fn begin(left: &[u8], right: &[u8], line: &mut [u8; 128]) -> Begun
 {
     let opened = opening::open_plain(left);
     let Opened::Column(column, _) = opened else {
-        let number = refusal_number(opened) as u64;
-        return Begun::Line(named_line(b"left refused ", number, line));
+        return Begun::Line(refused_line(b"left refused ", opened, line));
     };
     begin_right(column, left, right, line)
 }

@@ -16,8 +16,7 @@ use explaining::Cursor;
 use explaining::Walked;
 use format::Column;
 use format::Opened;
-use text::lines::named_line;
-use text::lines::refusal_number;
+use text::lines::refused_line;
 
 // The longest line of a part.
 const LINE_MAX: usize = 90;
@@ -40,8 +39,7 @@ pub fn begin(bytes: &[u8], line: &mut [u8; 128]) -> Begun
 {
     let opened = tableless::opening::open_plain(bytes);
     let Opened::Column(column, _) = opened else {
-        let number = refusal_number(opened) as u64;
-        return Begun::Refused(named_line(b"refused ", number, line));
+        return Begun::Refused(refused_line(b"refused ", opened, line));
     };
     Begun::Column(column)
 }

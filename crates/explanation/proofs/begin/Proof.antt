@@ -14,25 +14,18 @@ enum-known-opened c = search needs
 enum-told : tie.Need-enum-told
 enum-told c = search needs
 
-refusal-number-requires : tie.Need-refusal-number-requires
-refusal-number-requires c κs = search needs
+slice-aggregate-refused-line : tie.Need-slice-aggregate-refused-line
+slice-aggregate-refused-line c = search needs
 
-cast-number : tie.Need-cast-number
-cast-number c = search needs
-
-slice-aggregate-named-line : tie.Need-slice-aggregate-named-line
-slice-aggregate-named-line c = search needs
-
-named-line-requires : tie.Need-named-line-requires
-named-line-requires c κs = search needs
+refused-line-requires : tie.Need-refused-line-requires
+refused-line-requires c κs = search needs
 
 returns : tie.Need-returns
-returns c = let number = c .before .before .before in
-    let told = number .before in
-    begun-refused (told .before .before .open-plain .ensures) (told .enum-told .given .1) (number .refusal-number .ensures) (c .named-line .ensures .0) (c .named-line .ensures .1)
+returns c = let told = c .before .before .before in
+    begun-refused _ (told .before .before .open-plain .ensures) (told .enum-told .given .1) (c .refused-line .ensures .0) (c .refused-line .ensures .1)
 
 returns-2 : tie.Need-returns-2
-returns-2 c = begun-column (c .before .before .before .open-plain .ensures) (c .before .opened .given .1)
+returns-2 c = begun-column _ (c .before .before .before .open-plain .ensures) (c .before .opened .given .1)
 
 pub begin-spec : {M : Type 1} → statement M
 begin-spec =
@@ -41,9 +34,7 @@ begin-spec =
     open-plain-requires
     enum-known-opened
     enum-told
-    refusal-number-requires
-    cast-number
-    slice-aggregate-named-line
-    named-line-requires
+    slice-aggregate-refused-line
+    refused-line-requires
     returns
     returns-2)
