@@ -19,7 +19,7 @@ use Rattle.format.specs.Sheets.{openedUnder}
 use Rattle.format.specs.Typed.{storedAs}
 use Rattle.explaining.specs.Bytes.{partOf}
 use Rattle.owning.specs.Bytes.{rowsOf}
-use Rattle.plain.specs.Explaining.{partNumbers, rowsIn, Tells}
+use Rattle.plain.specs.Explaining.{partNumbers, rowsTold, Tells}
 use Rattle.plain.specs.Kinds.{kindFrom}
 use Rattle.plain.specs.Numbers.{columnFrom, Answers, Describes}
 use Rattle.telling.specs.Checking.{verdictNumbers}
@@ -53,7 +53,7 @@ partFrom ns s i = columnFrom ns >>= (λ (col : Column). partOf s col i >>= (λ (
 
 -- and its rows
 abbrev pub rowsFrom : (ns : List ℕ) (t : List Block) (s : List ℕ) (i : ℕ) → Outcome (List ℕ)
-rowsFrom ns t s i = columnFrom ns >>= (λ (col : Column). rowsIn (rowsOf s col t i))
+rowsFrom ns t s i = columnFrom ns >>= (λ (col : Column). rowsTold (rowsOf s col t i))
 
 -- checking a column against a list of values of the kind of a number
 abbrev pub checkedFrom : (n sheet : ℕ) (s xs : List ℕ) (room : ℕ) → Outcome (List ℕ)

@@ -20,8 +20,8 @@ rowsNumbers (OwnRows first last) = first ∷ (last + 1) ∷ []
 rowsNumbers NoRow = 0 ∷ 0 ∷ []
 
 -- those of rows that were found
-abbrev pub rowsIn : Outcome Owners → Outcome (List ℕ)
-rowsIn o = o >>= (λ (w : Owners). value (rowsNumbers w))
+abbrev pub rowsTold : Outcome Owners → Outcome (List ℕ)
+rowsTold o = o >>= (λ (w : Owners). value (rowsNumbers w))
 
 -- the numbers of the refusal, and those that were found
 pub record Tells (outcome : Outcome (List ℕ)) (refusal old new : List ℕ) : Type 0 where

@@ -1,7 +1,7 @@
 // A part is five numbers: which part (`explaining::naming::which_part`), the number of its block, 0 where it is no block's, its offset, its length, and the
 // number that it spells. Rows are two numbers: the first, and the one behind the last; both 0 where there are none.
 ghost use Rattle.owning.specs.Bytes.{rowsMeaning};
-ghost use Rattle.plain.specs.Explaining.{rowsIn, Tells};
+ghost use Rattle.plain.specs.Explaining.{rowsTold, Tells};
 ghost use Rattle.plain.specs.Numbers.{after, madeMeaning};
 use crate::ACCEPTED;
 use crate::Made;
@@ -11,7 +11,7 @@ use owning::RowsRead;
 
 // The rows of a byte of a column that was made.
 pub fn rows_told(made: Made, answer: RowsRead, rows: &mut [u64; 2], refusal: &mut [u64; 2])
-    ensures { λ _. ⌜ Tells (after (madeMeaning made) (rowsIn (rowsMeaning answer))) (now (refusal .exit)) (now (rows .entry)) (now (rows .exit)) ⌝ }
+    ensures { λ _. ⌜ Tells (after (madeMeaning made) (rowsTold (rowsMeaning answer))) (now (refusal .exit)) (now (rows .entry)) (now (rows .exit)) ⌝ }
 {
     if let Made::Refused(q) = made {
         *refusal = told(q);

@@ -27,7 +27,7 @@ pub record Onward (read : ℕ → Outcome ℕ) (rows : ℕ) (s : List ℕ) (h : 
   pub rest : firstDiffering (agrees read rows h s) 0 (h .records) ≡ firstDiffering (agrees read rows h s) k (h .records - k)
 
 -- a record at hand, with rows left
-pub record Going (rows : ℕ) (w : Walk) : Type 0 where
+pub record UnderWay (rows : ℕ) (w : Walk) : Type 0 where
   pub on : w .going ≡ true
   pub listed : w .k < w .head .records
   pub to : w .at < w .end
@@ -36,7 +36,7 @@ pub record Going (rows : ℕ) (w : Walk) : Type 0 where
 
 -- the records before it agree, and it does if the recorded rows still to come are those still to be found
 pub record OnHand (read : ℕ → Outcome ℕ) (rows : ℕ) (s : List ℕ) (w : Walk) : Type 0 where
-  pub going : Going rows w
+  pub going : UnderWay rows w
   pub onward : Onward read rows s (w .head) (w .k)
   pub here : agrees read rows (w .head) s (w .k)
       ≡ foundAre read (within (w .item .low) (w .item .high)) (w .at) (w .end - w .at) (toCome (w .head) s (w .item) (w .n))

@@ -12,7 +12,7 @@ ghost use Rattle.format.specs.declared.Replayed.the-variants.{Differ};
 ghost use Rattle.format.specs.Runs.{readRun};
 ghost use Rattle.reading.specs.Chunks.{DecodedAs, chunkSize};
 ghost use Rattle.chunks.specs.Rows.{rowsAmong};
-ghost use Rattle.replaying.specs.Walking.{toCome, Onward, Going, OnHand, Replaying, left};
+ghost use Rattle.replaying.specs.Walking.{toCome, Onward, UnderWay, OnHand, Replaying, left};
 use chunks::cut;
 use chunks::within;
 use format::Block;
@@ -241,7 +241,7 @@ fn step_through(
     w: Walk,
     values: &mut [u64],
 ) -> Walk
-    requires { ⌜ Going (column .window .rows) w × (length (now values) ≡ chunkSize (columnRow column (w .at)) (w .end - w .at)) ⌝ }
+    requires { ⌜ UnderWay (column .window .rows) w × (length (now values) ≡ chunkSize (columnRow column (w .at)) (w .end - w .at)) ⌝ }
     ensures { λ r. ⌜ ((table : List Block) → blocks ≡ length table → block ≡ blockAt table (columnRow column (w .at) % 2 ^ 32 / 512) → Replaying (rowAt column table (now (bytes .entry))) (column .window .rows) (now (recording .entry)) w → Replaying (rowAt column table (now (bytes .entry))) (column .window .rows) (now (recording .entry)) r) ⌝ }
     ensures { λ r. ⌜ left r < left w ⌝ }
 {
@@ -260,7 +260,7 @@ pub fn step(
     recording: &[u8],
     w: Walk,
 ) -> Walk
-    requires { ⌜ Going (column .window .rows) w ⌝ }
+    requires { ⌜ UnderWay (column .window .rows) w ⌝ }
     ensures { λ r. ⌜ ((table : List Block) → blocks ≡ length table → block ≡ blockAt table (columnRow column (w .at) % 2 ^ 32 / 512) → Replaying (rowAt column table (now (bytes .entry))) (column .window .rows) (now (recording .entry)) w → Replaying (rowAt column table (now (bytes .entry))) (column .window .rows) (now (recording .entry)) r) ⌝ }
     ensures { λ r. ⌜ left r < left w ⌝ }
 {

@@ -18,7 +18,7 @@ use Rattle.format.specs.Runs.{readRun, decoded}
 use Rattle.format.proofs.Runs.{run-long}
 use Rattle.walks.specs.declared.Walked.{Walked}
 use Rattle.walks.specs.declared.Walked.the-variants.{Entries, Refused}
-use Rattle.walks.specs.Walks.{Kept.allValues, kept, walked, WalkedAs, Passing}
+use Rattle.walks.specs.Walks.{Kept.allValues, kept, walked, WalkedAs, InPass}
 
 module _ (read : ℕ → Outcome ℕ) (window : Window) (first n : ℕ) (list : List ℕ) (long : length list ≡ n) where
   pub leaves : window .rows < first + n → WalkedAs (decoded read (window .rows) first n) (Refused NoSuchRow) list list
@@ -41,7 +41,7 @@ module _ (read : ℕ → Outcome ℕ) (window : Window) (first n : ℕ) (list : 
       by-outcome (refusal x y) e = refl
 
   pub begins-run : first + n ≤ window .rows → 0 < n → (t : Bool) → t ≡ leb (first + n - first) (512 - (window .first + first) % 512) → (a : Walked)
-      → Passing allValues read window (decoded read (window .rows) first n) list (record { base = window .first; first = first; end = first + n; at = first; n = 0; storing = t; going = true; answer = a }) list
+      → InPass allValues read window (decoded read (window .rows) first n) list (record { base = window .first; first = first; end = first + n; at = first; n = 0; storing = t; going = true; answer = a }) list
   unfolding readRun
   begins-run h some t e a =
       let long-is : first + n - first ≡ n = omega arith in

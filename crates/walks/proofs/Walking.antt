@@ -33,7 +33,7 @@ use Rattle.reading.specs.Chunks.{chunkSize}
 use Rattle.walks.specs.declared.Walk.{Walk}
 use Rattle.walks.specs.declared.Walked.{Walked}
 use Rattle.walks.specs.declared.Walked.the-variants.{Entries, Refused}
-use Rattle.walks.specs.Walks.{Kept, Kept.allValues, Kept.rowsOf, entries, kept, WalkedAs, nextChunk, Going, left, Single, Unrefused, Passing, Walking}
+use Rattle.walks.specs.Walks.{Kept, Kept.allValues, Kept.rowsOf, entries, kept, WalkedAs, nextChunk, Going, left, Single, Unrefused, InPass, Walking}
 use Rattle.chunks.proofs.Chunks.{chunk-to}
 use Rattle.chunks.proofs.Rows.{rows-few, rows-joined}
 
@@ -91,14 +91,14 @@ module _ {k : Kept} {read : ℕ → Outcome ℕ} {window : Window} {o : Outcome 
   -- a walk that is over has its answer
   pub ended : {a : Walked} → w .going ≡ false → w .answer ≡ a → WalkedAs o a before list → Walking k read window o before w list
   ended {a} e g f =
-      record { phase = as-unless (Passing k read window o before w list) (WalkedAs o (w .answer) before list) (w .going) e (subst (λ (x : Walked). WalkedAs o x before list) (sym g) f) }
+      record { phase = as-unless (InPass k read window o before w list) (WalkedAs o (w .answer) before list) (w .going) e (subst (λ (x : Walked). WalkedAs o x before list) (sym g) f) }
 
   module _ (f : Walking k read window o before w list) where
     pub is-over : w .going ≡ false → WalkedAs o (w .answer) before list
-    is-over e = unless (Passing k read window o before w list) (WalkedAs o (w .answer) before list) (w .going) e (f .phase)
+    is-over e = unless (InPass k read window o before w list) (WalkedAs o (w .answer) before list) (w .going) e (f .phase)
 
-    pub is-passing : w .going ≡ true → Passing k read window o before w list
-    is-passing e = when (Passing k read window o before w list) (WalkedAs o (w .answer) before list) (w .going) e (f .phase)
+    pub is-passing : w .going ≡ true → InPass k read window o before w list
+    is-passing e = when (InPass k read window o before w list) (WalkedAs o (w .answer) before list) (w .going) e (f .phase)
 
 -- the list that a call left, by what it was told
 pub left-as : {k : Kept} {read : ℕ → Outcome ℕ} {window : Window} {o : Outcome (List ℕ)} {before list : List ℕ} {w : Walk} {s t : Bool} (xs ys : List ℕ) → list ≡ pick s xs ys → s ≡ t
@@ -117,11 +117,11 @@ picked-long : (t : Bool) (before xs : List ℕ) → length (pick t (sets before 
 picked-long true before xs = length-sets before 0 xs
 picked-long false before xs = refl
 
-pub passing-long : {k : Kept} {read : ℕ → Outcome ℕ} {window : Window} {o : Outcome (List ℕ)} {before list : List ℕ} {w : Walk} → Passing k read window o before w list → length list ≡ length before
+pub passing-long : {k : Kept} {read : ℕ → Outcome ℕ} {window : Window} {o : Outcome (List ℕ)} {before list : List ℕ} {w : Walk} → InPass k read window o before w list → length list ≡ length before
 passing-long {k} {read} {window} {o} {before} {list} {w} f = ap length (f .list-is) ∙ picked-long (w .storing) before (entries k (w .first) (f .values))
 
 -- a run has a list of its rows' number, with an entry for each row done
-pub passing-run : {read : ℕ → Outcome ℕ} {window : Window} {o : Outcome (List ℕ)} {before list : List ℕ} {w : Walk} → Passing allValues read window o before w list
+pub passing-run : {read : ℕ → Outcome ℕ} {window : Window} {o : Outcome (List ℕ)} {before list : List ℕ} {w : Walk} → InPass allValues read window o before w list
     → (length list ≡ w .end - w .first) × (w .n ≡ w .at - w .first)
 passing-run {read} {window} {o} {before} {list} {w} f = (passing-long f ∙ f .sized, f .count ∙ run-long read (w .first) (w .at - w .first) (f .values) (f .sofar))
 
@@ -142,7 +142,7 @@ held : (t : Bool) (number : ℕ) (also xs found : List ℕ) → (demand t number
 held true number also xs found e = refl
 held false number also xs found e = absurd (not-value e)
 
-module _ (k : Kept) (read : ℕ → Outcome ℕ) {window : Window} {o : Outcome (List ℕ)} {before list : List ℕ} {w : Walk} (f : Passing k read window o before w list) (size : ℕ) (chunk : size ≡ nextChunk w) where
+module _ (k : Kept) (read : ℕ → Outcome ℕ) {window : Window} {o : Outcome (List ℕ)} {before list : List ℕ} {w : Walk} (f : InPass k read window o before w list) (size : ℕ) (chunk : size ≡ nextChunk w) where
   -- the chunk comes behind the rows done
   here : w .first + (w .at - w .first) ≡ w .at
   here = omega (arith, f .going .from)
@@ -166,7 +166,7 @@ module _ (k : Kept) (read : ℕ → Outcome ℕ) {window : Window} {o : Outcome 
     stored-so-far = rw all-entries (more-stored (w .storing) before list (entries k (w .first) (f .values)) (entries k (w .at) vs) (w .n) (f .count) (f .list-is))
 
     pub goes-on : w .at + size < w .end → (a : Walked)
-        → Passing k read window o before (record { base = w .base; first = w .first; end = w .end; at = w .at + size; n = w .n + n; storing = w .storing; going = true; answer = a }) (pick (w .storing) (sets list (w .n) (entries k (w .at) vs)) list)
+        → InPass k read window o before (record { base = w .base; first = w .first; end = w .end; at = w .at + size; n = w .n + n; storing = w .storing; going = true; answer = a }) (pick (w .storing) (sets list (w .n) (entries k (w .at) vs)) list)
     goes-on h a =
         let far : w .at + size - w .first ≡ (w .at - w .first) + size = omega (arith, f .going .from) in
         let most : n ≤ size = omega (arith, m, few k (w .at) vs, run-long read (w .at) size vs run) in
@@ -230,7 +230,7 @@ module _ (k : Kept) (read : ℕ → Outcome ℕ) {window : Window} {o : Outcome 
             record { answer = rw is refl; list = untouched ∙ rw is refl }
 
         pub turns-over : w .n + n ≤ length before → (a : Walked)
-            → Passing k read window o before (record { base = w .base; first = w .first; end = w .end; at = w .first; n = 0; storing = true; going = true; answer = a }) (pick (w .storing) (sets list (w .n) (entries k (w .at) vs)) list)
+            → InPass k read window o before (record { base = w .base; first = w .first; end = w .end; at = w .first; n = 0; storing = true; going = true; answer = a }) (pick (w .storing) (sets list (w .n) (entries k (w .at) vs)) list)
         unfolding readRun
         turns-over h a =
             let none-done : w .first - w .first ≡ 0 = omega arith in

@@ -93,7 +93,7 @@ pub record Unrefused (o : Outcome (List ℕ)) : Type 0 where
   pub is : o ≡ value found
 
 -- in a pass: the rows done read as some values, whose entries are counted, and stand in the list if the pass stores; and it stores only where nothing is refused, or nothing is stored yet
-pub record Passing (k : Kept) (read : ℕ → Outcome ℕ) (window : Window) (o : Outcome (List ℕ)) (before : List ℕ) (w : Walk) (list : List ℕ) : Type 0 where
+pub record InPass (k : Kept) (read : ℕ → Outcome ℕ) (window : Window) (o : Outcome (List ℕ)) (before : List ℕ) (w : Walk) (list : List ℕ) : Type 0 where
   pub going : Going w
   pub based : w .base ≡ window .first
   pub inside : w .end ≤ window .rows
@@ -107,4 +107,4 @@ pub record Passing (k : Kept) (read : ℕ → Outcome ℕ) (window : Window) (o 
 
 -- a walk under way, which is to find o: in a pass, or over
 pub record Walking (k : Kept) (read : ℕ → Outcome ℕ) (window : Window) (o : Outcome (List ℕ)) (before : List ℕ) (w : Walk) (list : List ℕ) : Type 0 where
-  pub phase : pick (w .going) (Passing k read window o before w list) (WalkedAs o (w .answer) before list)
+  pub phase : pick (w .going) (InPass k read window o before w list) (WalkedAs o (w .answer) before list)

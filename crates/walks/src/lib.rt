@@ -11,7 +11,7 @@ ghost use Rattle.format.specs.declared.Window.{Window};
 ghost use Rattle.format.specs.Outcome.{Outcome, Outcome.value, pick};
 ghost use Rattle.format.specs.Runs.{readRun};
 ghost use Rattle.reading.specs.Chunks.{DecodedAs};
-ghost use Rattle.walks.specs.Walks.{Kept, entries, nextChunk, Going, left, stores, Passing, Walking};
+ghost use Rattle.walks.specs.Walks.{Kept, entries, nextChunk, Going, left, stores, InPass, Walking};
 use format::ColumnRow;
 use format::Refusal;
 use format::WindowRow;
@@ -78,7 +78,7 @@ pub fn over(w: Walk, answer: Walked) -> Walk
 // rows behind it, or with the second pass; it is over where all is stored, where nothing is to be stored, or where the list has no room.
 fn advanced(w: Walk, size: usize, n: usize, room: usize) -> Walk
     requires { ⌜ Going w × (size ≡ nextChunk w) × (n ≤ size) ⌝ }
-    ensures { λ r. ⌜ ((k : Kept) (read : ℕ → Outcome ℕ) (window : Window) (o : Outcome (List ℕ)) (before list values : List ℕ) → Passing k read window o before w list → readRun read (w .at) size ≡ value values → n ≡ length (entries k (w .at) values) → room ≡ length before → Walking k read window o before r (pick (w .storing) (sets list (w .n) (entries k (w .at) values)) list)) ⌝ }
+    ensures { λ r. ⌜ ((k : Kept) (read : ℕ → Outcome ℕ) (window : Window) (o : Outcome (List ℕ)) (before list values : List ℕ) → InPass k read window o before w list → readRun read (w .at) size ≡ value values → n ≡ length (entries k (w .at) values) → room ≡ length before → Walking k read window o before r (pick (w .storing) (sets list (w .n) (entries k (w .at) values)) list)) ⌝ }
     ensures { λ r. ⌜ left r < left w ⌝ }
 {
     let at = w.at + size as u32;
@@ -130,7 +130,7 @@ pub fn stores(w: Walk, decoded: Decoded) -> bool
 // Internal: asks for a walk that is going on, and the chunk at hand. Behind the chunk that was decoded: a refused row ends the walk, or it goes on.
 pub fn behind(w: Walk, decoded: Decoded, size: usize, n: usize, room: usize) -> Walk
     requires { ⌜ Going w × (size ≡ nextChunk w) × (n ≤ size) ⌝ }
-    ensures { λ r. ⌜ ((k : Kept) (read : ℕ → Outcome ℕ) (window : Window) (o : Outcome (List ℕ)) (before list values : List ℕ) → Passing k read window o before w list → DecodedAs (readRun read (w .at) size) decoded values → n ≡ length (entries k (w .at) values) → room ≡ length before → Walking k read window o before r (pick (stores w decoded) (sets list (w .n) (entries k (w .at) values)) list)) ⌝ }
+    ensures { λ r. ⌜ ((k : Kept) (read : ℕ → Outcome ℕ) (window : Window) (o : Outcome (List ℕ)) (before list values : List ℕ) → InPass k read window o before w list → DecodedAs (readRun read (w .at) size) decoded values → n ≡ length (entries k (w .at) values) → room ≡ length before → Walking k read window o before r (pick (stores w decoded) (sets list (w .n) (entries k (w .at) values)) list)) ⌝ }
     ensures { λ r. ⌜ left r < left w ⌝ }
 {
     match decoded {

@@ -1,6 +1,6 @@
 -- The walks over the codec list.
 --     smaller-none, smaller-assoc, smaller-same, smaller-beaten      the smaller of two, in a row
---     Seeking, seeking-stops, seeking-next, seeking-ends             the walk for an unknown byte
+--     Scanning, scanning-stops, scanning-next, scanning-ends             the walk for an unknown byte
 --     known-each, third                                              where none is found, each byte names a codec; the third one
 --     walked-starts, walked-same, walked-more                        one listed codec further
 --     Choosing, choosing-starts, choosing-next, choosing-ends        the walk for the least
@@ -87,21 +87,21 @@ smaller-beaten (some b) (some s) (some o) e = by-tests (leb (b .size) (s .size))
 -- ---- the walk for an unknown byte
 
 -- no byte before i is unknown
-pub record Seeking (cs : List ℕ) (i : ℕ) : Type 0 where
+pub record Scanning (cs : List ℕ) (i : ℕ) : Type 0 where
   pub rest : known i (drop i cs) ≡ known 0 cs
 
-module _ {cs : List ℕ} {i : ℕ} (s : Seeking cs i) where
-  pub seeking-stops : i < length cs → 2 < getD cs i 0 → refusal 2 (i ∷ []) ≡ known 0 cs
+module _ {cs : List ℕ} {i : ℕ} (s : Scanning cs i) where
+  pub scanning-stops : i < length cs → 2 < getD cs i 0 → refusal 2 (i ∷ []) ≡ known 0 cs
   unfolding known
-  seeking-stops h t = sym (rw (next cs i h, lt-leb _ _ t)) ∙ s .rest
+  scanning-stops h t = sym (rw (next cs i h, lt-leb _ _ t)) ∙ s .rest
 
-  pub seeking-next : i < length cs → getD cs i 0 ≤ 2 → Seeking cs (i + 1)
+  pub scanning-next : i < length cs → getD cs i 0 ≤ 2 → Scanning cs (i + 1)
   unfolding known
-  seeking-next h t = record { rest = sym (rw (next cs i h, le-leb _ _ t, add-one)) ∙ s .rest }
+  scanning-next h t = record { rest = sym (rw (next cs i h, le-leb _ _ t, add-one)) ∙ s .rest }
 
-  pub seeking-ends : length cs ≤ i → value tt ≡ known 0 cs
+  pub scanning-ends : length cs ≤ i → value tt ≡ known 0 cs
   unfolding known
-  seeking-ends h = sym (rw (drop-of-length-le cs h)) ∙ s .rest
+  scanning-ends h = sym (rw (drop-of-length-le cs h)) ∙ s .rest
 
 -- where none is found, each byte names a codec
 pub known-each : (i : ℕ) (cs : List ℕ) → known i cs ≡ value tt → (j : ℕ) → j < length cs → getD cs j 0 ≤ 2

@@ -22,7 +22,7 @@ use Rattle.format.proofs.Block.Laws as B′
 use Rattle.format.proofs.Column.Laws as C′
 use Rattle.format.proofs.Replayed.Laws as A′
 use Rattle.replaying.specs.declared.walking.Walk.{Walk}
-use Rattle.replaying.specs.Walking.{left, Going, Replaying}
+use Rattle.replaying.specs.Walking.{left, UnderWay, Replaying}
 use Rattle.replaying.proofs.walking.Walk.Laws as W′
 use Rattle.replaying.proofs.Walks.{is-on-hand, is-over}
 use Rattle.records.proofs.Types as Ty
@@ -147,7 +147,7 @@ module _ {M : Type 1} (𝓤 : URA M) (H : Heap 𝓤) (A : Atoms 𝓤) (W : Given
   Says t d r = (blocks : List Block) → n ≡ length blocks → d ≡ blockAt blocks (columnRow c (t .w .at) % 2 ^ 32 / 512)
       → Replaying (rowAt c blocks (bytes .now)) (c .window .rows) (recording .now) (t .w) → Replaying (rowAt c blocks (bytes .now)) (c .window .rows) (recording .now) r
 
-  abbrev asked : (t : State) → t .w .going ≡ true → Going (c .window .rows) (t .w)
+  abbrev asked : (t : State) → t .w .going ≡ true → UnderWay (c .window .rows) (t .w)
   asked t test = is-on-hand reads (c .window .rows) (recording .now) (t .w) (t .under-way) test .going
 
   module _ (𝓣 : Tables 𝓤 H) (known-of : Triple 𝓤 (𝓣 .C #replaying·walking·block-of) (Of 𝓤 H A mem run)) (known-at : Triple 𝓤 (𝓣 .C #records·block-at) (At 𝓤 H A mem run)) (known-step : Triple 𝓤 (𝓣 .C #replaying·walking·step) (Step 𝓤 H A mem run)) (l₀ l₁ l₂ l₃ l₄ l₅ l₆ l₇ l₈ l₉ l₁₀ : ℕ) where
@@ -193,7 +193,7 @@ module _ {M : Type 1} (𝓤 : URA M) (H : Heap 𝓤) (A : Atoms 𝓤) (W : Given
         -- the bytes and the recording are copied, and go to `step`
         nothing ! $ have ! Own.replay (t .w) (t .fits) $ fjoin ! $ move ! (5 ∷ []) $ use1 W (‵ Recording ⊛ ‵ Recording) (shr-slice-copy 𝓤 H A W (named 2) κ₂ u8 .twice recording (rv ∷ [])) $ split ! $ move ! (0 ∷ 2 ∷ []) $ fjoin ! $
         move ! (5 ∷ []) $ use1 W (‵ Bytes ⊛ ‵ Bytes) (shr-slice-copy 𝓤 H A W (named 1) κ₁ u8 .twice bytes (bv ∷ [])) $ split ! $ move ! (0 ∷ 2 ∷ []) $ fjoin ! $ have ! Ty.block d dis $ fjoin ! $ have ! (number w64) n (refl, t-fits) $ fjoin ! $ have ! Ty.column c c-fits $ fjoin ! $
-        move ! (5 ∷ 0 ∷ []) $ join ! $ use0 W (raw (fact 𝓤 (Going (c .window .rows) (t .w)))) (factI 𝓤 (Going (c .window .rows) (t .w)) (emp 𝓤) (asked t test)) $ move ! (1 ∷ 0 ∷ []) $ join ! $ use1 W (raw (Step 𝓤 H A mem run .pre (to t d))) (id⊢ 𝓤 _) $
+        move ! (5 ∷ 0 ∷ []) $ join ! $ use0 W (raw (fact 𝓤 (UnderWay (c .window .rows) (t .w)))) (factI 𝓤 (UnderWay (c .window .rows) (t .w)) (emp 𝓤) (asked t test)) $ move ! (1 ∷ 0 ∷ []) $ join ! $ use1 W (raw (Step 𝓤 H A mem run .pre (to t d))) (id⊢ 𝓤 _) $
         calls-at-last ! (fmOf 𝓤 H (W .laws) 𝓣) (Step 𝓤 H A mem run) known-step (to t d) (and-then ! (load ! (from ! (stop !)) (look ! 9 refl)) (and-then ! (load ! (from ! (stop !)) (look ! 13 refl)) (and-then ! (load ! (from ! (stop !)) (look ! 7 refl)) (and-then ! (load ! (from ! (stop !)) (look ! 11 refl)) (and-then ! (load ! (from ! (stop !)) (look ! 12 refl)) (and-then ! (load ! (from ! (stop !)) (look ! 5 refl)) (no-more !))))))) (λ u.
         use1 W (later (some (λ (r : Walk). ((‵ (flft κ₁ q₁) ⊛ (‵ (flft κ₂ q₂) ⊛ ‵ ftrue)) ⊛ ‵ (Own.replay .row .own r (u ∷ []))) ⊛ raw (ensured 𝓤 H A st.ended (st.clauses 𝓤 H A mem run) (κ₁, (κ₂, tt)) (c, (n, (d, (bytes, (recording, (t .w, tt)))))) tt r)))) (id⊢ 𝓤 _) $ await ! tt $ pick ! (λ r.
         split ! $ move ! (1 ∷ []) $ use1 W (some (λ (zs : Unit {0} × (Unit {0} × (Unit {0} × (Unit {0} × (Unit {0} × (Unit {0} × Unit {0})))))). ‵ (lasts st.ended (κ₁, (κ₂, tt)) (c, (n, (d, (bytes, (recording, (t .w, tt)))))) zs) ⊛ (raw (fact 𝓤 (Says t d r)) ⊛ raw (fact 𝓤 (left r < left (t .w)))))) (id⊢ 𝓤 _) $ pick ! (λ zs.

@@ -17,7 +17,7 @@ use Rattle.owning.specs.declared.RowsRead.{RowsRead}
 use Rattle.owning.specs.Bytes.{rowsOf, rowsMeaning}
 use Rattle.records.proofs.Types as Ty
 use Rattle.plain.specs.declared.Made.{Made}
-use Rattle.plain.specs.Explaining.{rowsIn, Tells}
+use Rattle.plain.specs.Explaining.{rowsTold, Tells}
 use Rattle.plain.specs.Numbers.{after, columnFrom, madeMeaning, columnOf}
 use Rattle.column_c.specs.Calls.{rowsFrom}
 use Rattle.column_c.proofs.Types as T′
@@ -113,7 +113,7 @@ module _ {M : Type 1} (𝓤 : URA M) (H : Heap 𝓤) (A : Atoms 𝓤) (W : Given
   to-rt made answer = (((κ₃, (κ₄, tt)), (q₃, (q₄, tt)), tt, (made, (answer, (rows, (refusal, tt)))), (vals T′.made made, (vals T′.rowsRead answer, (rows-at ∷ [], (refusal-at ∷ [], tt))))), tt)
 
   abbrev Says-rt : Made → RowsRead → List ℕ → List ℕ → Type 0
-  Says-rt made answer rows′ refusal′ = Tells (after (madeMeaning made) (rowsIn (rowsMeaning answer))) refusal′ (rows .now) rows′
+  Says-rt made answer rows′ refusal′ = Tells (after (madeMeaning made) (rowsTold (rowsMeaning answer))) refusal′ (rows .now) rows′
 
   module _ (C : Calls 𝓤 H) (Λ : Loops 𝓤 H) (fm : FmC 𝓤 H (W .laws) C) (known-cf : Triple 𝓤 (C #plain·column-from) (From 𝓤 H A mem run)) (known-co : Triple 𝓤 (C #plain·column-of) (Of 𝓤 H A mem run)) (known-ra : Triple 𝓤 (C #byte-rows·rows-at) (Rows 𝓤 H A mem run)) (known-rt : Triple 𝓤 (C #plain·parts·rows-told) (Told 𝓤 H A mem run)) where
     walk : length (table .now) < 2 ^ 64 → length (bytes .now) < 2 ^ 64 → offset < 2 ^ 64
@@ -148,7 +148,7 @@ module _ {M : Type 1} (𝓤 : URA M) (H : Heap 𝓤) (A : Atoms 𝓤) (W : Given
         assigns ! (of-opd ! (unit-lit !)) (from ! (stop !)) (init ! 29 refl (tt, tt)) $
         returns ! (look ! 29 refl) $ forget ! 5 refl $ forget ! 7 refl $ forget ! 9 refl $ forget ! 11 refl $ forget ! 13 refl $ forget ! 15 refl $ forget ! 17 refl $ forget ! 19 refl $ forget ! 21 refl $ forget ! 23 refl $ forget ! 25 refl $ forget ! 27 refl $ forget ! 29 refl $
         move ! (29 ∷ 30 ∷ []) $ free1 ! $ move ! (27 ∷ 28 ∷ []) $ free1 ! $ move ! (25 ∷ 26 ∷ []) $ free1 ! $ move ! (23 ∷ 24 ∷ []) $ free1 ! $ move ! (21 ∷ 22 ∷ []) $ free1 ! $ move ! (19 ∷ 20 ∷ []) $ free1 ! $ move ! (17 ∷ 18 ∷ []) $ free1 ! $ move ! (15 ∷ 16 ∷ []) $ free1 ! $ move ! (13 ∷ 14 ∷ []) $ free1 ! $ move ! (11 ∷ 12 ∷ []) $ free1 ! $ move ! (9 ∷ 10 ∷ []) $ free1 ! $ move ! (7 ∷ 8 ∷ []) $ free1 ! $ move ! (5 ∷ 6 ∷ []) $ free1 ! $ free0 ! $ move ! (4 ∷ 3 ∷ 0 ∷ 2 ∷ 1 ∷ []) $
-        by ! (exits (zrt .1 .1 .0) (zrt .1 .1 .1 .0) (subst (λ (o : Outcome (List ℕ)). Tells o (zrt .1 .1 .1 .0) (rows .now) (zrt .1 .1 .0)) (joined (λ (col : Column). rowsIn (rowsOf (bytes .now) col (table .now) offset)) (column .now) made made-is c-is (ap rowsIn answer-is)) u-is)))))))))))))))))))))))
+        by ! (exits (zrt .1 .1 .0) (zrt .1 .1 .1 .0) (subst (λ (o : Outcome (List ℕ)). Tells o (zrt .1 .1 .1 .0) (rows .now) (zrt .1 .1 .0)) (joined (λ (col : Column). rowsTold (rowsOf (bytes .now) col (table .now) offset)) (column .now) made made-is c-is (ap rowsTold answer-is)) u-is)))))))))))))))))))))))
 
 module _ {M : Type 1} (𝓤 : URA M) (H : Heap 𝓤) (A : Atoms 𝓤) (W : Given 𝓤 H A) (mem : Memory → SProp 𝓤) (run : Routine → Fun 𝓤) where
   walks : (𝓣 : Tables 𝓤 H) → Triple 𝓤 (𝓣 .C #plain·column-from) (From 𝓤 H A mem run) → Triple 𝓤 (𝓣 .C #plain·column-of) (Of 𝓤 H A mem run) → Triple 𝓤 (𝓣 .C #byte-rows·rows-at) (Rows 𝓤 H A mem run) → Triple 𝓤 (𝓣 .C #plain·parts·rows-told) (Told 𝓤 H A mem run)

@@ -2,7 +2,7 @@
 -- Assumes nothing.
 use mathlib.Core.Path.{refl, sym, ap, _∙_}
 use Rattle.owning.specs.Bytes.{rowsMeaning}
-use Rattle.plain.specs.Explaining.{rowsNumbers, rowsIn}
+use Rattle.plain.specs.Explaining.{rowsNumbers, rowsTold}
 use Rattle.plain.proofs.Answering.{through, stopped}
 use Rattle.plain.proofs.Telling.{tells, silent}
 use borrow.Author.Needs.{needs}
@@ -49,14 +49,14 @@ told-requires-2 c κs = search needs
 returns-2 : tie.Need-returns-2
 returns-2 c = let o = c .before .before in
     let a = o .before .before .before in
-    tells _ (through (λ _. _) refl (a .before .before .enum-told .given .1) ∙ ap (λ x. rowsIn (rowsMeaning x)) (a .answer .given .1)) refl (sym (ap rowsNumbers (o .owners .given .1)))
+    tells _ (through (λ _. _) refl (a .before .before .enum-told .given .1) ∙ ap (λ x. rowsTold (rowsMeaning x)) (a .answer .given .1)) refl (sym (ap rowsNumbers (o .owners .given .1)))
 
 returns-3 : tie.Need-returns-3
 returns-3 c = search needs
 
 returns-4 : tie.Need-returns-4
 returns-4 c = let a = c .before .before in
-    silent (a .answer2 .given .0 .0) (through (λ _. _) refl (a .before .before .enum-told .given .1) ∙ ap (λ x. rowsIn (rowsMeaning x)) (a .answer2 .given .1)) (c .told2 .ensures)
+    silent (a .answer2 .given .0 .0) (through (λ _. _) refl (a .before .before .enum-told .given .1) ∙ ap (λ x. rowsTold (rowsMeaning x)) (a .answer2 .given .1)) (c .told2 .ensures)
 
 pub rows-told-spec : {M : Type 1} → statement M
 rows-told-spec =

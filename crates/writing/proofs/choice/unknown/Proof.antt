@@ -3,13 +3,13 @@
 use Prim.Native.Nat.{_-_}
 use mathlib.Core.Path.{refl}
 use lib.ListN.{length}
-use Rattle.writing.proofs.Choosing.{Seeking, seeking-stops, seeking-next, seeking-ends}
+use Rattle.writing.proofs.Choosing.{Scanning, scanning-stops, scanning-next, scanning-ends}
 use borrow.Author.Needs.{needs}
 use Rattle.writing.proofs.choice.unknown.Statement.{statement}
 use Rattle.writing.proofs.choice.unknown.Tie as tie
 
 abbrev Inv-loop : tie.InvT-loop
-Inv-loop codecs i₀ i = Seeking codecs i
+Inv-loop codecs i₀ i = Scanning codecs i
 
 abbrev μ-loop : tie.MeasureT-loop
 μ-loop codecs i₀ i = length codecs - i
@@ -21,7 +21,7 @@ shared-slice-read-if1 : tie.Need-shared-slice-read-if1 Inv-loop μ-loop
 shared-slice-read-if1 c = search needs
 
 returns : tie.Need-returns Inv-loop μ-loop
-returns c = seeking-stops (c .before .before .before .loop .inv) (c .before .before .loop-test .taken) (c .if1 .taken)
+returns c = scanning-stops (c .before .before .before .loop .inv) (c .before .before .loop-test .taken) (c .if1 .taken)
 
 add-i : tie.Need-add-i Inv-loop μ-loop
 add-i c = search needs
@@ -30,10 +30,10 @@ loop-less : tie.Need-loop-less Inv-loop μ-loop
 loop-less c = search needs
 
 loop-again : tie.Need-loop-again Inv-loop μ-loop
-loop-again c = seeking-next (c .before .before .before .loop .inv) (c .before .before .loop-test .taken) (c .if1 .left)
+loop-again c = scanning-next (c .before .before .before .loop .inv) (c .before .before .loop-test .taken) (c .if1 .left)
 
 returns-2 : tie.Need-returns-2 Inv-loop μ-loop
-returns-2 c = seeking-ends (c .before .loop .inv) (c .loop-test .left)
+returns-2 c = scanning-ends (c .before .loop .inv) (c .loop-test .left)
 
 pub unknown-spec : {M : Type 1} → statement M
 unknown-spec =
