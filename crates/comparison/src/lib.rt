@@ -101,8 +101,12 @@ pub fn fill_lines(
         if out.len() - done.bytes < LINE_MAX {
             break;
         }
-        lheld = tableless::held::hold(column, lbytes, r, lheld, &mut lvalues);
-        rheld = tableless::held::hold(against, rbytes, r, rheld, &mut rvalues);
+        if lheld.block != r / 512 {
+            lheld = tableless::held::hold(column, lbytes, r, lheld, &mut lvalues);
+        }
+        if rheld.block != r / 512 {
+            rheld = tableless::held::hold(against, rbytes, r, rheld, &mut rvalues);
+        }
         let a = tableless::held::answer(column, lbytes, r, lheld, &lvalues);
         let b = tableless::held::answer(against, rbytes, r, rheld, &rvalues);
         done = lines::put_row(out, done, r, a, b);

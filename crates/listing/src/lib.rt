@@ -58,7 +58,9 @@ pub fn fill_lines(own: Own, bytes: &[u8], from: u32, out: &mut [u8]) -> Filled
         if out.len() - at < LINE_MAX {
             break;
         }
-        held = tableless::held::hold(column, bytes, r, held, &mut values);
+        if held.block != r / 512 {
+            held = tableless::held::hold(column, bytes, r, held, &mut values);
+        }
         let answer = tableless::held::answer(column, bytes, r, held, &values);
         at = lines::put_row(out, at, r, answer);
         r += 1;

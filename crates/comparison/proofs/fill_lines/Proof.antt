@@ -1,12 +1,12 @@
 -- `fill_lines` meets its contract. The invariant is `Pairing`, with what the values at hand of both sides hold; the measure is the number of rows left.
 -- Assumes nothing.
 use Prim.Native.Nat.{_+_, _-_, _^_, _<_, max}
-use mathlib.Core.Path.{_≡_, refl}
+use mathlib.Core.Path.{_≡_, refl, sym}
 use mathlib.Core.Logic.{⊎-elim}
 use native.Mathlib.Omega.{arith}
 use lib.ListN.{length}
 use denote.Ref.{now}
-use Rattle.tableless.specs.Holding.{Holds}
+use Rattle.tableless.specs.Holding.{Holds, HoldsAt}
 use Rattle.tableless.specs.Own.{ownRow}
 use Rattle.text.proofs.Chunks.{chunk-none, chunk-full}
 use Rattle.tableless.proofs.Holding.{holds-nothing}
@@ -45,16 +45,38 @@ sub-if1 : tie.Need-sub-if1 Inv-loop μ-loop
 sub-if1 c = omega arith
 
 hold-requires : tie.Need-hold-requires Inv-loop μ-loop
-hold-requires c κs = c .before .before .before .before .loop .inv .2
+hold-requires c κs = c .before .before .before .before .before .before .loop .inv .2
+
+-- the left list holds what is said, of the row's block
+held-left : (c : tie.Joined2 Inv-loop μ-loop) →
+    let at = c .before .before .before .before .before in
+    let s = at .before .before .before .before .before .before .before .before .before in
+    HoldsAt (now (s .args .lbytes)) (s .args .left .column) (at .loop .r) (c .if2 .lheld) (c .if2 .lvalues)
+held-left c =
+    ⊎-elim
+    (λ w. rw (w .4, w .3) (w .2 .ensures))
+    (λ w. rw (w .2, w .1) (record { holds = c .before .before .before .before .before .loop .inv .2; at = λ _. sym (w .0 .left) }))
+    (c .if2 .came)
 
 hold-requires-2 : tie.Need-hold-requires-2 Inv-loop μ-loop
-hold-requires-2 c κs = c .before .before .before .before .before .before .loop .inv .3
+hold-requires-2 c κs = c .before .before .before .before .before .before .before .before .loop .inv .3
+
+-- so does the right one
+held-right : (c : tie.Joined3 Inv-loop μ-loop) →
+    let at = c .before .before .before .before .before .before .before in
+    let s = at .before .before .before .before .before .before .before .before .before in
+    HoldsAt (now (s .args .rbytes)) (s .args .right .column) (at .loop .r) (c .if3 .rheld) (c .if3 .rvalues)
+held-right c =
+    ⊎-elim
+    (λ w. rw (w .4, w .3) (w .2 .ensures))
+    (λ w. rw (w .2, w .1) (record { holds = c .before .before .before .before .before .before .before .loop .inv .3; at = λ _. sym (w .0 .left) }))
+    (c .if3 .came)
 
 answer-requires : tie.Need-answer-requires Inv-loop μ-loop
-answer-requires c κs = c .before .before .before .hold .ensures
+answer-requires c κs = held-left (c .before .before .before)
 
 answer-requires-2 : tie.Need-answer-requires-2 Inv-loop μ-loop
-answer-requires-2 c κs = c .before .before .before .hold2 .ensures
+answer-requires-2 c κs = held-right (c .before .before .before)
 
 -- a row that is looked at has one behind it
 few : (c : tie.In-loop Inv-loop μ-loop) → c .before .loop .r + 1 < 2 ^ 32
@@ -83,12 +105,12 @@ loop-again c =
       pairing-more (at .0) (omega (arith, turn .loop-test .taken, at .1)) (omega (arith, free .if1 .left)) (said .before .before .answer .ensures) (said .answer2 .ensures)
           (wrote .0) (wrote .1 .0) (wrote .1 .1),
       at .1,
-      kept .before .before .hold .ensures .holds,
-      kept .hold2 .ensures .holds,
+      held-left (kept .before .before) .holds,
+      held-right kept .holds,
     )
 
-sub-t27 : tie.Need-sub-t27 Inv-loop μ-loop
-sub-t27 c = omega (arith, c .before .loop .inv .0 .text .start)
+sub-t28 : tie.Need-sub-t28 Inv-loop μ-loop
+sub-t28 c = omega (arith, c .before .loop .inv .0 .text .start)
 
 same-length : tie.Need-same-length Inv-loop μ-loop
 same-length c = c .before .loop .inv .0 .text .kept
@@ -124,6 +146,6 @@ fill-lines-spec =
     add-r
     loop-less
     loop-again
-    sub-t27
+    sub-t28
     same-length
     returns)

@@ -1,14 +1,14 @@
 -- `fill_lines` meets its contract. The invariant is `Filling`, with what the values at hand hold; the measure is the number of rows left.
 -- Assumes nothing.
 use Prim.Native.Nat.{_+_, _-_, _^_, _<_}
-use mathlib.Core.Path.{_≡_, refl}
+use mathlib.Core.Path.{_≡_, refl, sym}
 use mathlib.Core.Logic.{⊎-elim}
 use native.Mathlib.Omega.{arith}
 use lib.ListN.{length}
 use denote.Ref.{now}
 use Rattle.format.specs.Listing.{rowLine}
 use Rattle.text.specs.Chunk.{chunkRows}
-use Rattle.tableless.specs.Holding.{Holds}
+use Rattle.tableless.specs.Holding.{Holds, HoldsAt}
 use Rattle.tableless.specs.Own.{ownRow}
 use Rattle.text.proofs.Chunks.{chunk-none, chunk-full}
 use Rattle.text.proofs.Filling.{Filling, filling-starts, filling-more, filling-answer, filling-list}
@@ -38,10 +38,21 @@ sub-if2 : tie.Need-sub-if2 Inv-loop μ-loop
 sub-if2 c = omega arith
 
 hold-requires : tie.Need-hold-requires Inv-loop μ-loop
-hold-requires c κs = c .before .before .before .before .loop .inv .1
+hold-requires c κs = c .before .before .before .before .before .before .loop .inv .1
+
+-- the list holds what is said, of the row's block
+held-here : (c : tie.Joined3 Inv-loop μ-loop) →
+    let at = c .before .before .before .before .before in
+    let s = at .before .before .before .before .before in
+    HoldsAt (now (s .args .bytes)) (s .args .own .column) (at .loop .r) (c .if3 .held) (c .if3 .values)
+held-here c =
+    ⊎-elim
+    (λ w. rw (w .4, w .3) (w .2 .ensures))
+    (λ w. rw (w .2, w .1) (record { holds = c .before .before .before .before .before .loop .inv .1; at = λ _. sym (w .0 .left) }))
+    (c .if3 .came)
 
 answer-requires : tie.Need-answer-requires Inv-loop μ-loop
-answer-requires c κs = c .before .hold .ensures
+answer-requires c κs = held-here (c .before)
 
 put-row-requires : tie.Need-put-row-requires Inv-loop μ-loop
 put-row-requires c κs = omega arith
@@ -60,12 +71,12 @@ loop-again : tie.Need-loop-again Inv-loop μ-loop
 loop-again c =
     let put = c .before .before in
     let said = put .before .before in
-    let held = said .before .before in
+    let kept = said .before .before in
     let wrote = put .put-row .ensures in
-    (filling-more (held .before .before .before .before .before .loop .inv .0) (omega arith) (omega arith) (line-wrote _ _ (said .answer .ensures) (wrote .0)) (wrote .1), held .hold .ensures .holds)
+    (filling-more (kept .before .before .before .before .before .loop .inv .0) (omega arith) (omega arith) (line-wrote _ _ (said .answer .ensures) (wrote .0)) (wrote .1), held-here kept .holds)
 
-sub-t18 : tie.Need-sub-t18 Inv-loop μ-loop
-sub-t18 c = omega arith
+sub-t19 : tie.Need-sub-t19 Inv-loop μ-loop
+sub-t19 c = omega arith
 
 same-length : tie.Need-same-length Inv-loop μ-loop
 same-length c = c .before .before .loop .inv .0 .kept
@@ -96,6 +107,6 @@ fill-lines-spec =
     add-r
     loop-less
     loop-again
-    sub-t18
+    sub-t19
     same-length
     returns)
