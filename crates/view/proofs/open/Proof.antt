@@ -5,7 +5,8 @@ use Rattle.walking.proofs.Walk.{Given, ‵, _$_, !, move, use1, fjoin, agg, loo
 use denote.Struct.Laws as LL
 use Rattle.walking.proofs.Data.{vals, Fits, have, typed}
 use Rattle.walking.proofs.Locals.{filled, leaves}
-use Rattle.walking.proofs.Whole.{calls, lands-at, arg, slice-again, ends, meets}
+use Rattle.walking.proofs.Again.{copies}
+use Rattle.walking.proofs.Whole.{calls, lands-at, arg, ends, meets}
 use Rattle.format.specs.declared.Column.{Column}
 use Rattle.format.specs.declared.Opened.{Opened}
 use Rattle.format.specs.Refusals.{openedMeaning}
@@ -53,7 +54,7 @@ module _ {M : Type 1} (𝓤 : URA M) (H : Heap 𝓤) (A : Atoms 𝓤) (mem : Mem
       meets 𝓤 H A W (𝓣 .C) (𝓣 .Λ) f.ended (f.clauses 𝓤 H A mem run) code.function (λ κs. (uint-vals w32, (slice-vals, tt))) (λ κs. (uint-tells w32, (shr-slice-tells (named 0) (κs .0) u8, tt)))
       (λ κs a are. ((tt, record { fits = are .0 .1 }), ((tt, (tt, (record { fits = are .1 .0 .0 .1 .0 }, tt))), tt)))
       (λ κs qs bounds a g are ls. let sheet = a .0 in let bytes = a .1 .0 in let α = namedLft 1 0 tt κs in let β : NamedLft = record { mir = erased; lft = κs .0 } in let fm = fmOf 𝓤 H (W .laws) 𝓣 in
-      slice-again ! 14 (named 0) (κs .0) u8 bytes refl $ move ! (13 ∷ 14 ∷ 0 ∷ []) $
+      copies ! 14 (κs .0) u8 bytes refl $ move ! (13 ∷ 14 ∷ 0 ∷ []) $
       calls ! fm of.ended (of.clauses 𝓤 H A mem run) opens (κs, qs, tt, a, (uint-vals w32 sheet, (slice-vals bytes, tt))) tt (id⊢ 𝓤 _) (λ p _. openedMeaning p ≡ columnIn (viewedUnder sheet (bytes .now))) (λ _ _. id⊢ 𝓤 _) (Ty.opened .val) (Ty.opened .tells) refl
       (arg ! 9 refl (arg ! 7 refl (no-more !))) (λ p _ p-is p-fits. lands-at ! 4 refl (typed W Ty.opened p _ p-fits .0) $
       have ! Ty.opened p p-fits $ calls ! fm cf.ended (cf.clauses 𝓤 H A mem run) keeps (tt, tt, tt, (p, tt), (vals Ty.opened p, tt)) tt (id⊢ 𝓤 _) (λ c _. c ≡ columnOr (openedMeaning p)) (λ _ _. id⊢ 𝓤 _) (Ty.column .val) (Ty.column .tells) refl
