@@ -1,6 +1,9 @@
--- The data of the walks by hand, besides those of the crate records.
+-- The data of the walks by hand, besides those of the crate records, and arrays.
 -- Assumes nothing.
 use Rattle.walking.proofs.Data.{Data, enum}
+use Prim.Native.Nat.{ℕ}
+use denote.Builtin.{ArrayOf, u64}
+use denote.Signature.{Slot, plain}
 use Rattle.format.proofs.Checked as C
 use Rattle.format.proofs.Checked.Laws as C′
 use Rattle.format.proofs.Kind as K
@@ -26,3 +29,7 @@ kind = enum K.the-type K′.the-laws tt K′.the-plain
 
 abbrev pub checked : Data
 checked = enum C.the-type C′.the-laws tt C′.the-plain
+
+-- an array of k numbers, where there are n lifetimes
+abbrev pub numbers : (n k : ℕ) → Slot n
+numbers n k = ArrayOf (plain (λ _. u64)) (λ _. tt) k
