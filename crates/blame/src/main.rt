@@ -3,7 +3,7 @@
 ghost use Prim.Native.Nat.{_≤_};
 ghost use lib.ListN.{length};
 ghost use Rattle.tableless.specs.Own.{Opens};
-ghost use Rattle.blaming.specs.Bytes.{blameMax};
+ghost use Rattle.blame_lines.specs.Bytes.{blameMax};
 use blaming::Begun;
 use format::Column;
 use libc::STDOUT_FILENO;

@@ -1,6 +1,7 @@
 -- How a blame begins, from what both openings found and the line that was written.
 --     begun-only, begun-both      with the only line; with both columns
 --     begun-opens                 those are columns that were opened of their bytes
+--     starts-left, starts-right, starts-lengths, starts-field, starts-both         how it begins, by the tests
 -- Assumes nothing.
 use Prim.Native.Nat.{ℕ}
 use mathlib.Core.Path.{_≡_, refl, ap, _∙_}
@@ -12,7 +13,8 @@ use lib.Dec.{eqb}
 use lib.ListN.{length}
 use Rattle.io.specs.Counts.{Counts}
 use Rattle.format.specs.declared.Column.{Column}
-use Rattle.format.specs.Listing.{openedHere}
+use Rattle.format.specs.declared.PartName.{PartName}
+use Rattle.format.specs.Listing.{ascii, namedLine, openedHere}
 use Rattle.format.specs.Opening.{Loaded}
 use Rattle.format.specs.Outcome.{Outcome, Outcome.value, Outcome.refusal, pick, Wrote}
 use Rattle.explaining.specs.Bytes.{partOf}
@@ -22,7 +24,7 @@ use Rattle.blaming.specs.declared.Begun.the-variants.{Columns, Line}
 use Rattle.bytewise.specs.declared.fields.Field.{Field}
 use Rattle.bytewise.specs.declared.fields.Field.the-variants.{At, Nothing}
 use Rattle.bytewise.specs.Fields.{firstField}
-use Rattle.blaming.specs.Bytes.{lengthsLine}
+use Rattle.blame_lines.specs.Bytes.{lengthsLine, fieldLine}
 use Rattle.blaming.specs.Beginning.{Start, Start.both, Start.only, startsWith, starts, begun, BegunAs}
 
 pub begun-only : {b : Start} {l old new : List ℕ} {n : ℕ} → b ≡ only l → Wrote old 0 l new n → Counts n new → BegunAs b (Line n) old new
@@ -48,3 +50,23 @@ begun-opens {s} {t} {c} {d} f = go (openedHere s) (openedHere t) refl refl (f .a
         (record { found = u; opened = e; column = same .0 }, record { found = w; opened = f; column = same .1 })
     go (value u) (refusal number also) e f is = absurd (let z : _≡_ {A = ℕ} 0 1 = cc in omega arith)
     go (refusal number also) p e f is = absurd (let z : _≡_ {A = ℕ} 0 1 = cc in omega arith)
+
+-- ---- by the tests
+
+module _ (s t : List ℕ) where
+  pub starts-left : {number : ℕ} {also : List ℕ} → openedHere s ≡ refusal number also → starts (openedHere s) (openedHere t) s t ≡ only (namedLine (ascii "left refused ") number)
+  starts-left r = rw r
+
+  module _ {c : Column} (u : Opens s c) where
+    pub starts-right : {number : ℕ} {also : List ℕ} → openedHere t ≡ refusal number also → starts (openedHere s) (openedHere t) s t ≡ only (namedLine (ascii "right refused ") number)
+    starts-right r = rw (u .opened, r)
+
+    module _ {d : Column} (w : Opens t d) where
+      pub starts-lengths : eqb (length s) (length t) ≡ false → starts (openedHere s) (openedHere t) s t ≡ only (lengthsLine (length s) (length t))
+      starts-lengths e = rw (u .opened, w .opened, e)
+
+      pub starts-field : {i : ℕ} {name : PartName} → eqb (length s) (length t) ≡ true → firstField (partOf s c) s t 0 (length s) ≡ At i name → starts (openedHere s) (openedHere t) s t ≡ only (fieldLine i name)
+      starts-field e f = rw (u .opened, w .opened, e, u .column, f)
+
+      pub starts-both : eqb (length s) (length t) ≡ true → firstField (partOf s c) s t 0 (length s) ≡ Nothing → starts (openedHere s) (openedHere t) s t ≡ both c d
+      starts-both e f = rw (u .opened, w .opened, e, u .column, w .column, f)

@@ -20,7 +20,7 @@ use Rattle.owning.specs.Bytes.{rowsOf}
 use Rattle.explanation.proofs.ExplainCases.{text}
 use Rattle.bytewise.specs.Fields.{firstField}
 use Rattle.bytewise.specs.Tallies.{tallyFrom}
-use Rattle.blaming.specs.Bytes.{lengthsLine, fieldLine, byteLine, bothLine, textAt}
+use Rattle.blame_lines.specs.Bytes.{lengthsLine, fieldLine, byteLine, bothLine, textAt}
 use Rattle.blaming.specs.Beginning.{blame}
 
 -- four rows of five bits, by the first two bytes of the area, with a byte behind it

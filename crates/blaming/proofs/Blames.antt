@@ -16,7 +16,7 @@ use Rattle.blaming.specs.declared.Looked.{Looked}
 use Rattle.blaming.specs.Beginning.{starts, Start.both, Start.only, lineIn, blame}
 use Rattle.bytewise.specs.Owners.{ownersFound}
 use Rattle.bytewise.specs.Tallies.{tallied}
-use Rattle.blaming.specs.Bytes.{blameMax, textAt, endLine}
+use Rattle.blame_lines.specs.Bytes.{blameMax, textAt, endLine}
 use Rattle.blaming.specs.Chunk.{lookedIn}
 
 -- the only line

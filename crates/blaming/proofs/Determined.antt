@@ -14,7 +14,7 @@ use Rattle.blaming.specs.declared.Looked.{Looked}
 use Rattle.blaming.specs.Beginning.{Start, BegunAs}
 use Rattle.bytewise.specs.Owners.{ownersFound}
 use Rattle.bytewise.specs.Tallies.{tallied}
-use Rattle.blaming.specs.Bytes.{blameMax, textAt, endLine}
+use Rattle.blame_lines.specs.Bytes.{blameMax, textAt, endLine}
 use Rattle.blaming.specs.Chunk.{lookedIn}
 
 -- two answers of `begin`, and what the lent line holds afterwards

@@ -2,9 +2,6 @@
 
 -- how a blame begins
 pub mod Beginnings
--- the text of an offset
-pub mod RowTexts
-pub mod Offsets
 -- what the calls come to
 pub mod Blames
 pub mod Determined

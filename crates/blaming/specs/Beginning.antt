@@ -19,7 +19,7 @@ use Rattle.bytewise.specs.declared.fields.Field.the-variants.{At, Nothing}
 use Rattle.bytewise.specs.Fields.{firstField}
 use Rattle.bytewise.specs.Owners.{ownersFound}
 use Rattle.bytewise.specs.Tallies.{tallied}
-use Rattle.blaming.specs.Bytes.{lengthsLine, fieldLine, textAt, endLine}
+use Rattle.blame_lines.specs.Bytes.{lengthsLine, fieldLine, textAt, endLine}
 
 -- a beginning: with two columns, or with the only line
 pub data Start : Type 0 where

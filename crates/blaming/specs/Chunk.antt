@@ -5,7 +5,7 @@ use mathlib.Core.List.{List}
 use lib.ListN.{length}
 use Rattle.text.specs.Chunk.{chunkRows, chunk}
 use Rattle.blaming.specs.declared.Looked.{Looked}
-use Rattle.blaming.specs.Bytes.{blameMax}
+use Rattle.blame_lines.specs.Bytes.{blameMax}
 
 -- the offsets that a chunk looks at, and the bytes of their text
 abbrev pub lookedIn : (text : ℕ → List ℕ) (bytes room from : ℕ) → Looked

@@ -2,9 +2,6 @@
 // bytes at a time as a lent buffer has room for; and how many bytes and rows there are. A side that does not open, unequal lengths and a field that
 // differs are a line of their own: then the bytes of the area do not tell which rows changed. No argument makes a call fail, and each contract says what
 // every lent entry holds afterwards.
-mod lines;
-mod rows;
-
 ghost use mathlib.Core.Path.{_≡_};
 ghost use lib.ListN.{length};
 ghost use lib.Seq.{sets};
@@ -16,8 +13,10 @@ ghost use Rattle.tableless.specs.Own.{Opens};
 ghost use Rattle.blaming.specs.Beginning.{starts, BegunAs};
 ghost use Rattle.bytewise.specs.Owners.{ownersFound};
 ghost use Rattle.bytewise.specs.Tallies.{tallied};
-ghost use Rattle.blaming.specs.Bytes.{blameMax, textAt, endLine};
+ghost use Rattle.blame_lines.specs.Bytes.{blameMax, textAt, endLine};
 ghost use Rattle.blaming.specs.Chunk.{lookedIn};
+use blame_lines::lines;
+use blame_lines::rows;
 use bytewise::counting;
 use bytewise::fields;
 use bytewise::fields::Field;

@@ -6,7 +6,7 @@ use native.Mathlib.Omega.{arith}
 use lib.ListN.{length}
 use denote.Ref.{now}
 use Rattle.text.proofs.Chunks.{Took}
-use Rattle.blaming.specs.Bytes.{blameMax, textAt}
+use Rattle.blame_lines.specs.Bytes.{blameMax, textAt}
 use Rattle.blaming.proofs.Blames.{looked}
 use Rattle.blame.proofs.write_bytes.Statement.{statement}
 use Rattle.blame.proofs.write_bytes.Tie as tie

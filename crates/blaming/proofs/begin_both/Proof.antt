@@ -3,8 +3,7 @@
 use mathlib.Core.Path.{sym, _∙_}
 use borrow.Author.Tests.{eq-eqb, ne-eqb}
 use denote.Ref.{now}
-use Rattle.blaming.proofs.Beginnings.{begun-only, begun-both}
-use Rattle.blaming.proofs.Offsets.{starts-lengths, starts-field, starts-both}
+use Rattle.blaming.proofs.Beginnings.{begun-only, begun-both, starts-lengths, starts-field, starts-both}
 use borrow.Author.Needs.{needs}
 use Rattle.blaming.proofs.begin_both.Statement.{statement}
 use Rattle.blaming.proofs.begin_both.Tie as tie

@@ -10,7 +10,7 @@ use Rattle.text.specs.Chunk.{chunkRows}
 use Rattle.text.proofs.Chunks.{chunk-none, chunk-full}
 use Rattle.text.proofs.Filling.{Filling, filling-starts, filling-more, filling-rows, filling-bytes, filling-list}
 use Rattle.text.proofs.Texts.{counts}
-use Rattle.blaming.specs.Bytes.{blameMax, textAt}
+use Rattle.blame_lines.specs.Bytes.{blameMax, textAt}
 use Rattle.blaming.proofs.fill_lines.Statement.{statement}
 use Rattle.blaming.proofs.fill_lines.Tie as tie
 

@@ -6,7 +6,7 @@ ghost use Rattle.format.specs.Listing.{rowTexts};
 ghost use Rattle.format.specs.Outcome.{Wrote};
 ghost use Rattle.tableless.specs.Own.{ownRow, ownAt, Opens, Owned};
 ghost use Rattle.bytewise.specs.Owners.{Few};
-ghost use Rattle.blaming.specs.Bytes.{blameMax, rowText, ownersText, textAt};
+ghost use Rattle.blame_lines.specs.Bytes.{blameMax, rowText, ownersText, textAt};
 use crate::lines::put_byte_line;
 use crate::lines::put_row;
 use bytewise::fields::same_at;
@@ -82,7 +82,7 @@ fn put_owners(
 }
 
 // Internal: asks for two columns, each opened of its bytes, and for room for a longest text. Writes the text of an offset, and returns the offset behind it.
-pub(crate) fn put_offset(
+pub fn put_offset(
     out: &mut [u8],
     at: usize,
     left: Column,

@@ -6,8 +6,8 @@ use Rattle.tableless.specs.declared.own.Own.{Own}
 use Rattle.tableless.specs.Own.{ownAt, Owned}
 use Rattle.tableless.proofs.Owns.{owned-first}
 use borrow.Author.Needs.{needs}
-use Rattle.blaming.proofs.rows.own_at.Statement.{statement}
-use Rattle.blaming.proofs.rows.own_at.Tie as tie
+use Rattle.blame_lines.proofs.rows.own_at.Statement.{statement}
+use Rattle.blame_lines.proofs.rows.own_at.Tie as tie
 
 begin-requires : tie.Need-begin-requires
 begin-requires c κs = search needs

@@ -6,11 +6,11 @@ use native.Mathlib.Omega.{arith}
 use lib.ListN.{length}
 use denote.Ref.{now}
 use Rattle.tableless.specs.Own.{ownRow}
-use Rattle.blaming.specs.Bytes.{rowText}
-use Rattle.blaming.proofs.RowTexts.{Written, written-starts, written-more}
+use Rattle.blame_lines.specs.Bytes.{rowText}
+use Rattle.blame_lines.proofs.RowTexts.{Written, written-starts, written-more}
 use borrow.Author.Needs.{needs}
-use Rattle.blaming.proofs.rows.put_rows.Statement.{statement}
-use Rattle.blaming.proofs.rows.put_rows.Tie as tie
+use Rattle.blame_lines.proofs.rows.put_rows.Statement.{statement}
+use Rattle.blame_lines.proofs.rows.put_rows.Tie as tie
 
 abbrev Inv-loop : tie.InvT-loop
 Inv-loop out₀ at left lbytes right rbytes first last count end₀ k₀ out end k = Written (rowText (ownRow (left .column) lbytes) (ownRow (right .column) rbytes)) out₀ at first k out end × (count ≡ last + 1 - first) × (k ≤ count) × (end ≤ at + 57 * k) × (length out ≡ length out₀)

@@ -7,7 +7,7 @@ ghost use Rattle.format.specs.Listing.{ascii, named, namedLine, answerText};
 ghost use Rattle.format.specs.Outcome.{Wrote};
 ghost use Rattle.format.specs.Refusals.{rowMeaning};
 ghost use Rattle.explaining.specs.Bytes.{partMeaning};
-ghost use Rattle.blaming.specs.Bytes.{lengthsLine, fieldLine, partName, byteLine, bothLine};
+ghost use Rattle.blame_lines.specs.Bytes.{lengthsLine, fieldLine, partName, byteLine, bothLine};
 use explaining::PartRead;
 use explanation::words::put_name;
 use format::PartName;
@@ -18,7 +18,7 @@ use text::put::put_byte;
 use text::put::put_named;
 
 // Writes the line of two lengths at the start of a line, and returns its length.
-pub(crate) fn lengths_line(left: usize, right: usize, line: &mut [u8; 128]) -> usize
+pub fn lengths_line(left: usize, right: usize, line: &mut [u8; 128]) -> usize
     ensures { λ r. ⌜ Wrote (now (line .entry)) 0 (lengthsLine left right) (now (line .exit)) r ⌝ }
     ensures { λ r. ⌜ Counts r (now (line .exit)) ⌝ }
 {
@@ -26,7 +26,7 @@ pub(crate) fn lengths_line(left: usize, right: usize, line: &mut [u8; 128]) -> u
 }
 
 // Writes the line of a field that differs at the start of a line, and returns its length.
-pub(crate) fn field_line(offset: usize, name: PartName, line: &mut [u8; 128]) -> usize
+pub fn field_line(offset: usize, name: PartName, line: &mut [u8; 128]) -> usize
     ensures { λ r. ⌜ Wrote (now (line .entry)) 0 (fieldLine offset name) (now (line .exit)) r ⌝ }
     ensures { λ r. ⌜ Counts r (now (line .exit)) ⌝ }
 {
@@ -37,7 +37,7 @@ pub(crate) fn field_line(offset: usize, name: PartName, line: &mut [u8; 128]) ->
 }
 
 // Writes the last line, with two counts, at the start of a line, and returns its length.
-pub(crate) fn count_line(bytes: usize, rows: u64, line: &mut [u8; 128]) -> usize
+pub fn count_line(bytes: usize, rows: u64, line: &mut [u8; 128]) -> usize
     ensures { λ r. ⌜ Wrote (now (line .entry)) 0 (named (ascii "bytes ") bytes ++ namedLine (ascii " rows ") rows) (now (line .exit)) r ⌝ }
     ensures { λ r. ⌜ Counts r (now (line .exit)) ⌝ }
 {
@@ -60,7 +60,7 @@ fn put_part(out: &mut [u8], at: usize, part: PartRead) -> usize
 }
 
 // Internal: asks for room of fifty-three bytes, and no line takes more. Writes the line of a byte, and returns the offset behind it.
-pub(crate) fn put_byte_line(out: &mut [u8], at: usize, offset: usize, part: PartRead) -> usize
+pub fn put_byte_line(out: &mut [u8], at: usize, offset: usize, part: PartRead) -> usize
     requires { ⌜ at + 53 ≤ length (now out) ⌝ }
     ensures { λ r. ⌜ Wrote (now (out .entry)) at (byteLine offset (partMeaning part)) (now (out .exit)) r ⌝ }
     ensures { λ r. ⌜ r ≤ at + 53 ⌝ }
@@ -82,7 +82,7 @@ fn put_spaced(out: &mut [u8], at: usize, answer: RowRead) -> usize
 }
 
 // Internal: asks for room of fifty-seven bytes, and no line takes more. Writes the line of a row, and returns the offset behind it.
-pub(crate) fn put_row(out: &mut [u8], at: usize, row: u32, left: RowRead, right: RowRead) -> usize
+pub fn put_row(out: &mut [u8], at: usize, row: u32, left: RowRead, right: RowRead) -> usize
     requires { ⌜ at + 57 ≤ length (now out) ⌝ }
     ensures { λ r. ⌜ Wrote (now (out .entry)) at (bothLine row (rowMeaning left) (rowMeaning right)) (now (out .exit)) r ⌝ }
     ensures { λ r. ⌜ r ≤ at + 57 ⌝ }

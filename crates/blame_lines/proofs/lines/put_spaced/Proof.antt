@@ -3,8 +3,8 @@
 use native.Mathlib.Omega.{arith}
 use Rattle.format.proofs.Stores.{wrote-then}
 use borrow.Author.Needs.{needs}
-use Rattle.blaming.proofs.lines.put_spaced.Statement.{statement}
-use Rattle.blaming.proofs.lines.put_spaced.Tie as tie
+use Rattle.blame_lines.proofs.lines.put_spaced.Statement.{statement}
+use Rattle.blame_lines.proofs.lines.put_spaced.Tie as tie
 
 put-byte-requires : tie.Need-put-byte-requires
 put-byte-requires c κs = search needs

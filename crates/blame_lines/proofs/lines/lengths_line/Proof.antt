@@ -1,9 +1,9 @@
 -- `lengths_line` meets its contract: two names, each with its number.
 -- Assumes nothing.
 use borrow.Author.Needs.{needs}
-use Rattle.blaming.specs.Bytes.{lengthsLine}
-use Rattle.blaming.proofs.lines.lengths_line.Statement.{statement}
-use Rattle.blaming.proofs.lines.lengths_line.Tie as tie
+use Rattle.blame_lines.specs.Bytes.{lengthsLine}
+use Rattle.blame_lines.proofs.lines.lengths_line.Statement.{statement}
+use Rattle.blame_lines.proofs.lines.lengths_line.Tie as tie
 
 slice-aggregate-pair-line : tie.Need-slice-aggregate-pair-line
 slice-aggregate-pair-line c = search needs

@@ -6,10 +6,10 @@ use lib.ListN.{length}
 use Rattle.format.specs.Listing.{ascii, named}
 use Rattle.format.proofs.Stores.{wrote-then}
 use Rattle.text.proofs.Texts.{named-most}
-use Rattle.blaming.specs.Bytes.{byteLine}
+use Rattle.blame_lines.specs.Bytes.{byteLine}
 use borrow.Author.Needs.{needs}
-use Rattle.blaming.proofs.lines.put_byte_line.Statement.{statement}
-use Rattle.blaming.proofs.lines.put_byte_line.Tie as tie
+use Rattle.blame_lines.proofs.lines.put_byte_line.Statement.{statement}
+use Rattle.blame_lines.proofs.lines.put_byte_line.Tie as tie
 
 -- the most bytes of the offset
 most : (c : tie.After-slice-known) → length (named (ascii "byte ") (c .before .args .offset)) ≤ 25

@@ -8,8 +8,8 @@ use Rattle.tableless.specs.declared.own.Own.{Own}
 use Rattle.tableless.specs.Own.{Owned}
 use Rattle.tableless.proofs.Owns.{owned-at}
 use borrow.Author.Needs.{needs}
-use Rattle.blaming.proofs.rows.put_owners.Statement.{statement}
-use Rattle.blaming.proofs.rows.put_owners.Tie as tie
+use Rattle.blame_lines.proofs.rows.put_owners.Statement.{statement}
+use Rattle.blame_lines.proofs.rows.put_owners.Tie as tie
 
 enum-known-owners : tie.Need-enum-known-owners
 enum-known-owners c = search needs

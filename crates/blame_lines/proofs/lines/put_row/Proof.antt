@@ -7,10 +7,10 @@ use Rattle.format.specs.Listing.{ascii, named}
 use Rattle.format.proofs.Stores.{wrote-then}
 use Rattle.text.proofs.Decimals.{length-decimal}
 use Rattle.text.proofs.Texts.{length-named}
-use Rattle.blaming.specs.Bytes.{bothLine}
+use Rattle.blame_lines.specs.Bytes.{bothLine}
 use borrow.Author.Needs.{needs}
-use Rattle.blaming.proofs.lines.put_row.Statement.{statement}
-use Rattle.blaming.proofs.lines.put_row.Tie as tie
+use Rattle.blame_lines.proofs.lines.put_row.Statement.{statement}
+use Rattle.blame_lines.proofs.lines.put_row.Tie as tie
 
 -- a row's number has at most ten digits
 most : (c : tie.After-slice-known) → length (named (ascii "row ") (c .before .args .row)) ≤ 14

@@ -7,10 +7,10 @@ use denote.Ref.{now}
 use Rattle.format.proofs.Stores.{wrote-then}
 use Rattle.bytewise.specs.Owners.{Few}
 use Rattle.bytewise.proofs.FewRows.{found-few}
-use Rattle.blaming.proofs.Offsets.{text-same, text-differs}
+use Rattle.blame_lines.proofs.Offsets.{text-same, text-differs}
 use borrow.Author.Needs.{needs}
-use Rattle.blaming.proofs.rows.put_offset.Statement.{statement}
-use Rattle.blaming.proofs.rows.put_offset.Tie as tie
+use Rattle.blame_lines.proofs.rows.put_offset.Statement.{statement}
+use Rattle.blame_lines.proofs.rows.put_offset.Tie as tie
 
 same-at-requires : tie.Need-same-at-requires
 same-at-requires c κs = search needs

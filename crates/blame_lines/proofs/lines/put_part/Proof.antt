@@ -7,8 +7,8 @@ use Rattle.format.specs.Listing.{ascii, named}
 use Rattle.text.proofs.Decimals.{length-decimal}
 use Rattle.text.proofs.Texts.{length-named}
 use borrow.Author.Needs.{needs}
-use Rattle.blaming.proofs.lines.put_part.Statement.{statement}
-use Rattle.blaming.proofs.lines.put_part.Tie as tie
+use Rattle.blame_lines.proofs.lines.put_part.Statement.{statement}
+use Rattle.blame_lines.proofs.lines.put_part.Tie as tie
 
 -- a refusal's number has at most three digits
 short : (c : tie.After-number) → length (named (ascii "refused ") (c .number .result)) ≤ 11

@@ -6,10 +6,10 @@ use lib.ListN.{length}
 use Rattle.format.specs.Listing.{ascii, named}
 use Rattle.format.proofs.Stores.{wrote-then}
 use Rattle.text.proofs.Texts.{named-most, counts}
-use Rattle.blaming.specs.Bytes.{fieldLine}
+use Rattle.blame_lines.specs.Bytes.{fieldLine}
 use borrow.Author.Needs.{needs}
-use Rattle.blaming.proofs.lines.field_line.Statement.{statement}
-use Rattle.blaming.proofs.lines.field_line.Tie as tie
+use Rattle.blame_lines.proofs.lines.field_line.Statement.{statement}
+use Rattle.blame_lines.proofs.lines.field_line.Tie as tie
 
 -- the most bytes of the first field
 most : (c : tie.Start) → length (named (ascii "fields differ at byte ") (c .args .offset)) ≤ 42
