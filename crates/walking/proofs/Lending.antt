@@ -3,6 +3,7 @@
 --     parted, joined               a chain of assertions, and a context that begins with them; starred     and one that holds nothing else
 --     nothings     what is left of n parameters of which nothing is said
 --     as-tokens, as-ownings, as-lefts      the chains are the kit's own
+--     hands, takes     the entries that a function is lent, and the kit's assertion of them.        comes, returns     those that it gives back, from the front of a context and to its end
 -- Assumes nothing.
 use mathlib.Core.Path.{_≡_, refl, sym, subst, ap}
 use Prim.Native.Nat.{ℕ, zero, suc}

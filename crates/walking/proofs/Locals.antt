@@ -2,7 +2,7 @@
 --     enters       the locals are there and the parameters stored, and the body runs
 --     leaves       what the locals hold is let go, and they are freed
 --     keeps        of the locals the first n keep what they hold, the others are room; what stands before them goes behind, what stood behind is let go: as the invariant of a loop has them
--- Assumes nothing.
+-- Assumes `Given`.
 use mathlib.Core.Path.{_≡_, subst, sym}
 use Prim.Native.Nat.{ℕ, zero, suc}
 use mathlib.Core.List.{List, [], _∷_, _++_}

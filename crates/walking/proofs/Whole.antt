@@ -4,7 +4,7 @@
 --     calls        a call. What the callee is lent stands in front; the tokens and what is left of each argument go to the end
 --     calls-last   the same of a call that is the last statement of its part, as of a loop's turn
 --     two-facts, two-asked     two facts that a callee says are one; two that it asks
---     lands-at     what a call returns goes to a local of its own.        arg      an argument of a call, from a local
+--     lands-at     what a call returns goes to a local of its own
 --     look-as      a local is read whose value is told by an equation.        field-of     a field of a local: its type and its place are given, since what antt finds for them is large
 --     ends         the walk's end: the tokens, what is left of each parameter and what the result owns stand in front
 -- Assumes `Given`, and `FmC` of the table of calls where there is a call.
@@ -28,7 +28,7 @@ use contract.Lifetimes.{Lfts, Shares, AllOutlive}
 use sound.WpLaws.{FmC}
 use types.Kit.{Go, Given, Item, ‵, raw, _⊛_, some, later, nth, put, ⋆, push, pop, Post, prop, runs, lands, settles, atRet, Seq, Step, _$_, _∵_, !, qed, by, move, keep, use1, split, join, pick, await, updating, now as at-once, show, frame, regoal}
 use types.Part.{Part, whole, sub, look-in}
-use types.Run.{Opd, Opds, Reads, first, land, from, stop, fld, init, and-then, load, look}
+use types.Run.{Opd, Opds, Reads, first, land, from, stop, fld, init, load, look}
 use denote.RattleType.{flat}
 use denote.Laws.{Is, Ises, Are, Spells, valss, Tells, Tellss, shows}
 use denote.Signature.{typeAt, typesAt}
@@ -88,9 +88,6 @@ module _ {M : Type 1} {𝓤 : URA M} {H : Heap 𝓤} {A : Atoms 𝓤} {K : Type 
   pub lands-at : K → (n : ℕ) {E : Env 𝓤 H} {C : Calls 𝓤 H} {Λ : Loops 𝓤 H} {q : Post 𝓤 H} {i : ℕ} {rest : Body} {v : Val} → nth 𝓤 H A n Γ ≡ ‵ (froom (spotOf 𝓤 H E i .0) (spotOf 𝓤 H E i .1) (spotOf 𝓤 H E i .2)) → So (hasTy (spotOf 𝓤 H E i .0) v) × WT v
       → Step K W (put 𝓤 H A n (‵ (fat fullShare (spotOf 𝓤 H E i .0) (spotOf 𝓤 H E i .1) (spotOf 𝓤 H E i .2) v)) Γ) (runs C Λ E rest q) Γ (lands C Λ E (place i []) v rest q)
   lands-at t n e fits = land t (from t (stop t)) (init t n e fits)
-
-  pub arg : K → (n : ℕ) {E : Env 𝓤 H} {i : ℕ} {xs : List Operand} {v : Val} {vs : List Val} {s : Share} → nth 𝓤 H A n Γ ≡ ‵ (fat s (spotOf 𝓤 H E i .0) (spotOf 𝓤 H E i .1) (spotOf 𝓤 H E i .2) v) → Opds K W Γ E xs vs → Opds K W Γ E (copy (place i []) ∷ xs) (v ∷ vs)
-  arg t n e os = and-then t (load t (from t (stop t)) (look t n e)) os
 
   pub look-as : K → (n : ℕ) {s : Share} {τ : Ty} {b o : ℕ} {v v′ : Val} → nth 𝓤 H A n Γ ≡ ‵ (fat s τ b o v) → v ≡ v′ → Reads K W Γ τ b o v′
   look-as t n {τ = τ} {b = b} {o = o} e is = subst (λ (u : Val). Reads K W Γ τ b o u) is (look t n e)

@@ -2,7 +2,7 @@
 -- What holds before each turn is `Rounds`' `State`.
 -- Assumes nothing.
 use Rattle.walking.proofs.Walk.{_≡_, refl, sym, _∙_, ap, ℕ, _<_, _^_, List, [], _∷_, length, URA, named, w32, w64, tyInt, Val, vbool, vint, SProp, emp, id⊢, Memory, Routine, Heap, Out, Env, WpFn, Tables, Wp, atReturn, afterSeq, afterBlock, afterTurn, Atoms, Fun, factI, givenOf, tables, tablesOf, true, false}
-use Rattle.walking.proofs.Walk.{Given, Item, Sq, runs, anyQ, atRet, _$_, !, move, look, init, store, stop, from, load, lit, of-opd, bin, no-more, assigns, first, blocks, loops, again, Below, stays, leaves-loop, exec, returns, fmOf, u8, RefT, sliceVal, slice-vals, shr-slice-tells, uint-vals, uint-tells, nothing, Contract, Triple, tripleOf, entered, cited, Lfts}
+use Rattle.walking.proofs.Walk.{Given, Item, Sq, runs, anyQ, atRet, _$_, !, move, look, init, store, stop, from, load, lit, of-opd, bin, no-more, assigns, first, blocks, loops, again, Below, stays, leaves-loop, exec, returns, fmOf, u8, RefT, sliceVal, slice-vals, shr-slice-tells, uint-vals, uint-tells, nothing, Contract, Triple, tripleOf, entered, cited, Lfts, and-then}
 use borrow.Author.Tests.{ltb-true, ltb-false}
 use lib.Dec.{ltb}
 use mathlib.Core.List.{_++_}
@@ -15,7 +15,7 @@ use Rattle.walking.proofs.Tested.{tested}
 use Rattle.walking.proofs.Locals.{bare, holds, filled, Spots, params, envOf, cellsOf, laid, keeps, leaves}
 use Rattle.walking.proofs.Lending.{toks-of, own-of}
 use Rattle.walking.proofs.Again.{copies}
-use Rattle.walking.proofs.Whole.{calls, calls-last, lands-at, arg, field-of, look-as, two-facts, ends, meets}
+use Rattle.walking.proofs.Whole.{calls, calls-last, lands-at, field-of, look-as, two-facts, ends, meets}
 use Rattle.format.specs.declared.Block.{Block}
 use Rattle.format.specs.declared.Column.{Column}
 use Rattle.format.specs.declared.Owners.{Owners}
@@ -108,13 +108,13 @@ module _ {M : Type 1} (𝓤 : URA M) (H : Heap 𝓤) (A : Atoms 𝓤) (mem : Mem
         -- the table is had again, and goes to `block_at`
         have ! (number w64) (t .w .next) (refl, next-fits) $ copies ! 22 (κs .0) (Ty.block .row) table refl $ move ! (20 ∷ []) $
         calls ! (fmOf 𝓤 H (W .laws) 𝓣) at′.ended (at′.clauses 𝓤 H A mem run) known-at ((κs .0, tt), (qs .0, tt), tt, (table, (t .w .next, tt)), (slice-vals table, (uint-vals w64 (t .w .next), tt))) tt (id⊢ 𝓤 _) (λ d _. d ≡ blockAt (table .now) (t .w .next)) (λ _ _. id⊢ 𝓤 _) (Ty.block .val) (Ty.block .tells) refl
-        (arg ! 13 refl (arg ! 5 refl (no-more !))) (λ d _ d-is d-fits. lands-at ! 2 refl (typed W Ty.block d _ d-fits .0) $
+        (and-then ! (load ! (from ! (stop !)) (look ! 13 refl)) (and-then ! (load ! (from ! (stop !)) (look ! 5 refl)) (no-more !))) (λ d _ d-is d-fits. lands-at ! 2 refl (typed W Ty.block d _ d-fits .0) $
         -- the block goes to `step`
         have ! R.search (t .w) (t .fits) $ have ! Ty.block d d-fits $ have ! Ty.column c c-fits $
         calls-last ! (fmOf 𝓤 H (W .laws) 𝓣) st.ended (st.clauses 𝓤 H A mem run) known-step (tt, tt, tt, (c, (d, (t .w, tt))), (vals Ty.column c, (vals Ty.block d, (vals R.search (t .w), tt)))) tt
         (factI 𝓤 (Searching (c .rows) (t .w) × (0 < t .w .left)) (emp 𝓤) (t .searching, ltb-true 0 (t .w .left) test))
         (λ w _. Says d w × (w .left < t .w .left)) (λ _ _. two-facts 𝓤) (R.search .val) (R.search .tells) refl
-        (arg ! 15 refl (arg ! 3 refl (arg ! 7 refl (no-more !)))) (λ w _ w-is w-fits. land-last ! (from ! (stop !)) (store ! 6 refl (typed W R.search w _ w-fits .0)) $
+        (and-then ! (load ! (from ! (stop !)) (look ! 15 refl)) (and-then ! (load ! (from ! (stop !)) (look ! 3 refl)) (and-then ! (load ! (from ! (stop !)) (look ! 7 refl)) (no-more !)))) (λ w _ w-is w-fits. land-last ! (from ! (stop !)) (store ! 6 refl (typed W R.search w _ w-fits .0)) $
         move ! (23 ∷ 18 ∷ 19 ∷ 20 ∷ 21 ∷ 22 ∷ []) $ keeps ! 6 6 En (bare ∷ filled 8 _) refl $
         again ! (R._≺_ (table .now) (c .rows) wanted) I t (R.under (table .now) (c .rows) wanted w (w-is .0 .0) (w-is .0 .1 (table .now) d-is ∙ t .comes-to) w-fits) (w-is .1)))
       where
@@ -152,7 +152,7 @@ module _ {M : Type 1} (𝓤 : URA M) (H : Heap 𝓤) (A : Atoms 𝓤) (mem : Mem
       have ! (number w64) offset (are .1 .1 .1 .0) $ copies ! 23 (κs .1 .0) u8 bytes refl $ have ! Ty.column c (are .0) $ move ! (22 ∷ []) $
       calls ! (fmOf 𝓤 H (W .laws) 𝓣) bg.ended (bg.clauses 𝓤 H A mem run) known-begin ((κs .1 .0, tt), (qs .1 .0, tt), tt, (c, (bytes, (offset, tt))), (vals Ty.column c, (slice-vals bytes, (uint-vals w64 offset, tt)))) tt (id⊢ 𝓤 _)
       (λ w _. Searching (c .rows) w × ((blocks : List Block) → searched blocks (c .rows) w ≡ rowsOf (bytes .now) c blocks offset)) (λ _ _. id⊢ 𝓤 _) (R.search .val) (R.search .tells) refl
-      (arg ! 15 refl (arg ! 11 refl (arg ! 9 refl (no-more !)))) (λ w _ w-is w-fits. lands-at ! 6 refl (typed W R.search w _ w-fits .0) $
+      (and-then ! (load ! (from ! (stop !)) (look ! 15 refl)) (and-then ! (load ! (from ! (stop !)) (look ! 11 refl)) (and-then ! (load ! (from ! (stop !)) (look ! 9 refl)) (no-more !)))) (λ w _ w-is w-fits. lands-at ! 6 refl (typed W R.search w _ w-fits .0) $
       move ! (18 ∷ 24 ∷ 19 ∷ 20 ∷ 21 ∷ 22 ∷ []) $ keeps ! 6 6 (envOf 𝓤 H A (params (code.function .locals) [] ls)) (bare ∷ filled 5 _) refl $
       looped W 𝓣 known-at known-step κs qs bounds a (are .0) ls (R.under (table .now) (c .rows) (rowsOf (bytes .now) c (table .now) offset) w (w-is .0) (w-is .1 (table .now)) w-fits)))
 

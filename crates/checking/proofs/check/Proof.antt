@@ -4,7 +4,7 @@ use Rattle.walking.proofs.Walk.{refl, [], _∷_, length, URA, named, w32, w64, 
 use Rattle.walking.proofs.Walk.{Given, _$_, !, move, whole, sub, look-in, agg, addr, look, init, stop, hop, fld, from, load, lit, and-then, no-more, assigns, returns, fmOf, u8, u64, slice-vals, shr-slice-tells, mut-slice-tells, uint-vals, uint-tells, Contract, Triple, tripleOf, entered, cited}
 use Rattle.walking.proofs.Data.{vals, Fits, have, typed}
 use Rattle.walking.proofs.Locals.{filled, leaves}
-use Rattle.walking.proofs.Whole.{calls, lands-at, arg, field-of, ends, meets}
+use Rattle.walking.proofs.Whole.{calls, lands-at, field-of, ends, meets}
 use Rattle.format.specs.declared.Kind.the-variants.{U64}
 use Rattle.format.specs.Sheets.{openedUnder}
 use Rattle.format.specs.Typed.{storedAs}
@@ -43,7 +43,7 @@ module _ {M : Type 1} (𝓤 : URA M) (H : Heap 𝓤) (A : Atoms 𝓤) (mem : Mem
       have ! Ty.kind U64 kind-fits $ move ! (17 ∷ 18 ∷ 19 ∷ 0 ∷ 20 ∷ 21 ∷ 22 ∷ 23 ∷ []) $
       calls ! (fmOf 𝓤 H (W .laws) 𝓣) ca.ended (ca.clauses 𝓤 H A mem run) known (κs, qs, tt, (U64, a), (vals Ty.kind U64, (uint-vals w32 sheet, (slice-vals bytes, (slice-vals values, (slice-vals table, tt)))))) tt (id⊢ 𝓤 _)
       (λ v ws. CheckedAs (openedUnder sheet (bytes .now) (length (table .now))) (bytes .now) (storedAs U64 (values .now)) v (table .now) (ws .1 .1 .1 .1 .0)) (λ _ _. id⊢ 𝓤 _) (Ty.checked .val) (Ty.checked .tells) refl
-      (arg ! 5 refl (arg ! 13 refl (arg ! 11 refl (arg ! 9 refl (arg ! 1 refl (no-more !)))))) (λ v ws v-is v-fits. lands-at ! 14 refl (typed W Ty.checked v _ v-fits .0) $
+      (and-then ! (load ! (from ! (stop !)) (look ! 5 refl)) (and-then ! (load ! (from ! (stop !)) (look ! 13 refl)) (and-then ! (load ! (from ! (stop !)) (look ! 11 refl)) (and-then ! (load ! (from ! (stop !)) (look ! 9 refl)) (and-then ! (load ! (from ! (stop !)) (look ! 1 refl)) (no-more !)))))) (λ v ws v-is v-fits. lands-at ! 14 refl (typed W Ty.checked v _ v-fits .0) $
       returns ! (look ! 14 refl) $ leaves ! (filled 8 _) refl $ have ! Ty.checked v v-fits $ move ! (2 ∷ 3 ∷ 4 ∷ 6 ∷ 7 ∷ 8 ∷ 9 ∷ 0 ∷ []) $
       ends ! f.ended (f.clauses 𝓤 H A mem run) κs qs a g (Ty.checked .val v) v (ws .1) (factI 𝓤 _ (emp 𝓤) (numbers-checked v-is)) _ refl))
 

@@ -5,7 +5,7 @@ use Rattle.walking.proofs.Walk.{Given, _$_, !, move, whole, sub, look-in, agg, 
 use Rattle.walking.proofs.Data.{vals, have, typed}
 use Rattle.walking.proofs.Locals.{filled, leaves}
 use Rattle.walking.proofs.Again.{copies}
-use Rattle.walking.proofs.Whole.{calls, lands-at, arg, field-of, ends, meets}
+use Rattle.walking.proofs.Whole.{calls, lands-at, field-of, ends, meets}
 use Rattle.format.specs.Calls.{OpenedAs}
 use Rattle.format.specs.Checking.{checked}
 use Rattle.format.specs.Opening.{columnIn}
@@ -48,13 +48,13 @@ module _ {M : Type 1} (𝓤 : URA M) (H : Heap 𝓤) (A : Atoms 𝓤) (mem : Mem
       copies ! 23 (κs .0) u8 bytes refl $ move ! (19 ∷ 21 ∷ 23 ∷ 0 ∷ 26 ∷ []) $
       calls ! fm un.ended (un.clauses 𝓤 H A mem run) known-under ((κs .0, (κs .1 .1 .0, tt)), (qs .0, (qs .1 .1 .0, tt)), tt, (sheet, (bytes, (table, tt))), (uint-vals w32 sheet, (slice-vals bytes, (slice-vals table, tt)))) tt (id⊢ 𝓤 _)
       (λ r ws. OpenedAs (openedUnder sheet (bytes .now) (length (table .now))) r (table .now) (ws .1 .1 .0)) (λ _ _. id⊢ 𝓤 _) (opened .val) (opened .tells) refl
-      (arg ! 13 refl (arg ! 11 refl (arg ! 1 refl (no-more !)))) (λ r ws r-is r-fits. lands-at ! 4 refl (typed W opened r _ r-fits .0) $
+      (and-then ! (load ! (from ! (stop !)) (look ! 13 refl)) (and-then ! (load ! (from ! (stop !)) (look ! 11 refl)) (and-then ! (load ! (from ! (stop !)) (look ! 1 refl)) (no-more !)))) (λ r ws r-is r-fits. lands-at ! 4 refl (typed W opened r _ r-fits .0) $
       -- what it answered goes to `verdict_on`
       have ! opened r r-fits $ move ! (24 ∷ 19 ∷ 20 ∷ 0 ∷ 21 ∷ 22 ∷ []) $
       calls ! fm vo.ended (vo.clauses 𝓤 H A mem run) known-on ((κs .0, (κs .1 .0, tt)), (qs .0, (qs .1 .0, tt)), tt, (kind, (r, (bytes, (values, tt)))), (vals Ty.kind kind, (vals opened r, (slice-vals bytes, (slice-vals values, tt))))) tt
       (factI 𝓤 (FromOpening (bytes .now) r) (emp 𝓤) (record { sheet = sheet; room = length (table .now); is = r-is .answer }))
       (λ v _. (n room : ℕ) → openedMeaning r ≡ columnIn (openedUnder n (bytes .now) room) → checkedMeaning v ≡ checked (openedUnder n (bytes .now) room) (bytes .now) (storedAs kind (values .now))) (λ _ _. id⊢ 𝓤 _) (Ty.checked .val) (Ty.checked .tells) refl
-      (arg ! 15 refl (arg ! 5 refl (arg ! 11 refl (arg ! 9 refl (no-more !))))) (λ v _ v-is v-fits. lands-at ! 16 refl (typed W Ty.checked v _ v-fits .0) $
+      (and-then ! (load ! (from ! (stop !)) (look ! 15 refl)) (and-then ! (load ! (from ! (stop !)) (look ! 5 refl)) (and-then ! (load ! (from ! (stop !)) (look ! 11 refl)) (and-then ! (load ! (from ! (stop !)) (look ! 9 refl)) (no-more !))))) (λ v _ v-is v-fits. lands-at ! 16 refl (typed W Ty.checked v _ v-fits .0) $
       returns ! (look ! 16 refl) $ leaves ! (filled 9 _) refl $ have ! Ty.checked v v-fits $ move ! (6 ∷ 7 ∷ 2 ∷ 8 ∷ 3 ∷ 4 ∷ 11 ∷ 5 ∷ 0 ∷ []) $
       ends ! f.ended (f.clauses 𝓤 H A mem run) κs qs a g (Ty.checked .val v) v (tt, (tt, (tt, (tt, (ws .1 .1 .0, tt))))) (factI 𝓤 _ (emp 𝓤) (record { answer = v-is sheet (length (table .now)) (r-is .answer); table = r-is .table })) _ refl)))
 

@@ -1,12 +1,12 @@
 -- `column_c::hulemartob_open` meets its contract: a walk of its MIR, by hand. Two calls: the first opens, and is given the table for good; the second tells its answer.
 -- Assumes nothing.
 use Rattle.walking.proofs.Walk.{refl, [], _∷_, length, URA, named, w64, vint, SProp, id⊢, emp, Memory, Routine, Heap, Tables, Atoms, Fun, factI, givenOf, tables, tablesOf, Given, WpFn, u8, slice-vals, shr-slice-tells, mut-slice-tells}
-use Rattle.walking.proofs.Walk.{_$_, !, move, whole, sub, look-in, agg, addr, look, init, stop, hop, fld, from, load, and-then, no-more, assigns, land, returns, fmOf, Contract, Triple, tripleOf, entered, cited}
+use Rattle.walking.proofs.Walk.{_$_, !, move, whole, sub, look-in, agg, addr, look, init, stop, hop, fld, from, load, and-then, no-more, assigns, returns, fmOf, Contract, Triple, tripleOf, entered, cited}
 use denote.Ref.{ptr-vals, mut-tells}
 use Rattle.walking.proofs.Data.{vals, number, have, typed}
 use Rattle.column_c.proofs.Types.{numbers}
 use Rattle.walking.proofs.Locals.{filled, leaves}
-use Rattle.walking.proofs.Whole.{calls, ends, meets}
+use Rattle.walking.proofs.Whole.{calls, lands-at, ends, meets}
 use Rattle.format.specs.Calls.{OpenedAs}
 use Rattle.format.specs.Opening.{opened}
 use Rattle.format.specs.Refusals.{openedMeaning}
@@ -46,13 +46,13 @@ module _ {M : Type 1} (𝓤 : URA M) (H : Heap 𝓤) (A : Atoms 𝓤) (mem : Mem
       assigns ! (agg ! (and-then ! (load ! (from ! (stop !)) (look ! 6 refl)) (and-then ! (load ! (from ! (fld ! refl (stop !))) (look-in ! 14 (sub ! 1 refl (whole !)))) (no-more !)))) (from ! (stop !)) (init ! 4 refl (tt, (tt, (record { fits = are .1 .0 .0 .1 .0 }, tt)))) $
       move ! (20 ∷ 21 ∷ 24 ∷ 25 ∷ []) $ calls ! fm op.ended (op.clauses 𝓤 H A mem run) known-op ((κs .0, (κs .1 .0, tt)), (qs .0, (qs .1 .0, tt)), tt, (bytes, (table, tt)), (slice-vals bytes, (slice-vals table, tt))) tt (id⊢ 𝓤 _)
       (λ answer answer-last. OpenedAs (opened (bytes .now) (length (table .now))) answer (table .now) (answer-last .1 .0)) (λ _ _. id⊢ 𝓤 _) (Ty.opened .val) (Ty.opened .tells) refl
-      (and-then ! (load ! (from ! (stop !)) (look ! 17 refl)) (and-then ! (load ! (from ! (stop !)) (look ! 5 refl)) (no-more !))) (λ answer answer-last answer-is answer-fits. land ! (from ! (stop !)) (init ! 8 refl (typed W Ty.opened answer _ answer-fits .0)) $
+      (and-then ! (load ! (from ! (stop !)) (look ! 17 refl)) (and-then ! (load ! (from ! (stop !)) (look ! 5 refl)) (no-more !))) (λ answer answer-last answer-is answer-fits. lands-at ! 8 refl (typed W Ty.opened answer _ answer-fits .0) $
       -- the answer is told
       assigns ! (addr ! (from ! (hop ! (look ! 12 refl) (stop !)))) (from ! (stop !)) (init ! 2 refl (tt, tt)) $
       assigns ! (addr ! (from ! (hop ! (look ! 10 refl) (stop !)))) (from ! (stop !)) (init ! 0 refl (tt, tt)) $
       have ! Ty.opened answer answer-fits $ move ! (21 ∷ 22 ∷ 0 ∷ 23 ∷ 24 ∷ []) $ calls ! fm ot.ended (ot.clauses 𝓤 H A mem run) known-ot ((κs .1 .1 .0, (κs .1 .1 .1 .0, tt)), (qs .1 .1 .0, (qs .1 .1 .1 .0, tt)), tt, (answer, (column, (refusal, tt))), (vals Ty.opened answer, (ptr-vals column, (ptr-vals refusal, tt)))) tt (id⊢ 𝓤 _)
       (λ v v-last. Describes (openedMeaning answer) v (v-last .1 .1 .0) (column .now) (v-last .1 .0)) (λ _ _. id⊢ 𝓤 _) (number w64 .val) (number w64 .tells) refl
-      (and-then ! (load ! (from ! (stop !)) (look ! 9 refl)) (and-then ! (load ! (from ! (stop !)) (look ! 3 refl)) (and-then ! (load ! (from ! (stop !)) (look ! 1 refl)) (no-more !)))) (λ v v-last v-is v-fits. land ! (from ! (stop !)) (init ! 18 refl (typed W (number w64) v _ v-fits .0)) $
+      (and-then ! (load ! (from ! (stop !)) (look ! 9 refl)) (and-then ! (load ! (from ! (stop !)) (look ! 3 refl)) (and-then ! (load ! (from ! (stop !)) (look ! 1 refl)) (no-more !)))) (λ v v-last v-is v-fits. lands-at ! 18 refl (typed W (number w64) v _ v-fits .0) $
       returns ! (look ! 18 refl) $ leaves ! (filled 10 _) refl $ have ! (number w64) v v-fits $ move ! (2 ∷ 3 ∷ 6 ∷ 7 ∷ 4 ∷ 5 ∷ 9 ∷ 10 ∷ 0 ∷ []) $
       ends ! f.ended (f.clauses 𝓤 H A mem run) κs qs a g (vint w64 v) v (tt, (answer-last .1 .0, (v-last .1 .0, (v-last .1 .1 .0, tt))))
       (factI 𝓤 _ (emp 𝓤) (opens answer-is v-is)) _ refl)))

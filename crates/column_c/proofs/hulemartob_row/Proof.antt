@@ -1,12 +1,12 @@
 -- `column_c::hulemartob_row` meets its contract: a walk of its MIR, by hand. Nothing but calls: the column is made of its numbers, the row is read by the table, and one call tells the answer.
 -- Assumes nothing.
 use Rattle.walking.proofs.Walk.{_≡_, refl, _∙_, ap, [], _∷_, URA, named, w32, w64, vint, SProp, id⊢, emp, Memory, Routine, Heap, Tables, Atoms, Fun, factI, givenOf, tables, tablesOf, Given, WpFn, u8, uint-vals, uint-tells, slice-vals, shr-slice-tells}
-use Rattle.walking.proofs.Walk.{_$_, !, move, addr, look, init, stop, hop, from, load, and-then, no-more, assigns, land, returns, fmOf, Contract, Triple, tripleOf, entered, cited}
+use Rattle.walking.proofs.Walk.{_$_, !, move, addr, look, init, stop, hop, from, load, and-then, no-more, assigns, returns, fmOf, Contract, Triple, tripleOf, entered, cited}
 use denote.Ref.{ptr-vals, mut-tells, shr-tells}
 use Rattle.walking.proofs.Data.{vals, number, have, typed}
 use Rattle.column_c.proofs.Types.{numbers}
 use Rattle.walking.proofs.Locals.{filled, leaves}
-use Rattle.walking.proofs.Whole.{calls, ends, meets}
+use Rattle.walking.proofs.Whole.{calls, lands-at, ends, meets}
 use Rattle.format.specs.declared.Column.{Column}
 use Rattle.format.specs.Reading.{rowAt}
 use Rattle.format.specs.Refusals.{rowMeaning}
@@ -65,20 +65,20 @@ module _ {M : Type 1} (𝓤 : URA M) (H : Heap 𝓤) (A : Atoms 𝓤) (mem : Mem
       (λ κs qs _ a g are _. let column = a .0 in let table = a .1 .0 in let bytes = a .1 .1 .0 in let row = a .1 .1 .1 .0 in let refusal = a .1 .1 .1 .1 .0 in let fm = fmOf 𝓤 H (W .laws) 𝓣 in
       -- the column of the twelve numbers, or one of no rows
       move ! (22 ∷ 26 ∷ []) $ calls ! fm cf.ended (cf.clauses 𝓤 H A mem run) known-cf ((κs .0, tt), (qs .0, tt), tt, (column, tt), (ptr-vals column, tt)) tt (id⊢ 𝓤 _) (λ made _. madeMeaning made ≡ columnFrom (column .now)) (λ _ _. id⊢ 𝓤 _) (T′.made .val) (T′.made .tells) refl
-      (and-then ! (load ! (from ! (stop !)) (look ! 19 refl)) (no-more !)) (λ made _ made-is made-fits. land ! (from ! (stop !)) (init ! 8 refl (typed W T′.made made _ made-fits .0)) $
+      (and-then ! (load ! (from ! (stop !)) (look ! 19 refl)) (no-more !)) (λ made _ made-is made-fits. lands-at ! 8 refl (typed W T′.made made _ made-fits .0) $
       have ! T′.made made made-fits $ calls ! fm co.ended (co.clauses 𝓤 H A mem run) known-co (tt, tt, tt, (made, tt), (vals T′.made made, tt)) tt (id⊢ 𝓤 _) (λ c _. c ≡ columnOf made) (λ _ _. id⊢ 𝓤 _) (Ty.column .val) (Ty.column .tells) refl
-      (and-then ! (load ! (from ! (stop !)) (look ! 9 refl)) (no-more !)) (λ c _ c-is c-fits. land ! (from ! (stop !)) (init ! 6 refl (typed W Ty.column c _ c-fits .0)) $
+      (and-then ! (load ! (from ! (stop !)) (look ! 9 refl)) (no-more !)) (λ c _ c-is c-fits. lands-at ! 6 refl (typed W Ty.column c _ c-fits .0) $
       move ! (27 ∷ []) $ calls ! fm wr.ended (wr.clauses 𝓤 H A mem run) known-wr (tt, tt, tt, (row, tt), (uint-vals w32 row, tt)) tt (id⊢ 𝓤 _) (λ w _. w .0 ≡ row) (λ _ _. id⊢ 𝓤 _) (Ty.windowRow .val) (Ty.windowRow .tells) refl
-      (and-then ! (load ! (from ! (stop !)) (look ! 13 refl)) (no-more !)) (λ w _ w-is w-fits. land ! (from ! (stop !)) (init ! 4 refl (typed W Ty.windowRow w _ w-fits .0)) $
+      (and-then ! (load ! (from ! (stop !)) (look ! 13 refl)) (no-more !)) (λ w _ w-is w-fits. lands-at ! 4 refl (typed W Ty.windowRow w _ w-fits .0) $
       -- the row
       have ! Ty.windowRow w w-fits $ have ! Ty.column c c-fits $ move ! (24 ∷ 25 ∷ 0 ∷ 27 ∷ 28 ∷ 1 ∷ []) $ calls ! fm rr.ended (rr.clauses 𝓤 H A mem run) known-rr ((κs .1 .0, (κs .1 .1 .0, tt)), (qs .1 .0, (qs .1 .1 .0, tt)), tt, (c, (table, (bytes, (w, tt)))), (vals Ty.column c, (slice-vals table, (slice-vals bytes, (vals Ty.windowRow w, tt))))) tt (id⊢ 𝓤 _)
       (λ answer _. rowMeaning answer ≡ rowAt c (table .now) (bytes .now) (w .0)) (λ _ _. id⊢ 𝓤 _) (Ty.rowRead .val) (Ty.rowRead .tells) refl
-      (and-then ! (load ! (from ! (stop !)) (look ! 7 refl)) (and-then ! (load ! (from ! (stop !)) (look ! 17 refl)) (and-then ! (load ! (from ! (stop !)) (look ! 15 refl)) (and-then ! (load ! (from ! (stop !)) (look ! 5 refl)) (no-more !))))) (λ answer _ answer-is answer-fits. land ! (from ! (stop !)) (init ! 2 refl (typed W Ty.rowRead answer _ answer-fits .0)) $
+      (and-then ! (load ! (from ! (stop !)) (look ! 7 refl)) (and-then ! (load ! (from ! (stop !)) (look ! 17 refl)) (and-then ! (load ! (from ! (stop !)) (look ! 15 refl)) (and-then ! (load ! (from ! (stop !)) (look ! 5 refl)) (no-more !))))) (λ answer _ answer-is answer-fits. lands-at ! 2 refl (typed W Ty.rowRead answer _ answer-fits .0) $
       -- the answer is told
       assigns ! (addr ! (from ! (hop ! (look ! 10 refl) (stop !)))) (from ! (stop !)) (init ! 0 refl (tt, tt)) $
       have ! Ty.rowRead answer answer-fits $ have ! T′.made made made-fits $ move ! (24 ∷ 0 ∷ 1 ∷ 25 ∷ []) $ calls ! fm rt.ended (rt.clauses 𝓤 H A mem run) known-rt ((κs .1 .1 .1 .0, tt), (qs .1 .1 .1 .0, tt), tt, (made, (answer, (refusal, tt))), (vals T′.made made, (vals Ty.rowRead answer, (ptr-vals refusal, tt)))) tt (id⊢ 𝓤 _)
       (λ v v-last. Answers (after (madeMeaning made) (rowMeaning answer)) v (v-last .1 .1 .0)) (λ _ _. id⊢ 𝓤 _) (number w64 .val) (number w64 .tells) refl
-      (and-then ! (load ! (from ! (stop !)) (look ! 9 refl)) (and-then ! (load ! (from ! (stop !)) (look ! 3 refl)) (and-then ! (load ! (from ! (stop !)) (look ! 1 refl)) (no-more !)))) (λ v v-last v-is v-fits. land ! (from ! (stop !)) (init ! 20 refl (typed W (number w64) v _ v-fits .0)) $
+      (and-then ! (load ! (from ! (stop !)) (look ! 9 refl)) (and-then ! (load ! (from ! (stop !)) (look ! 3 refl)) (and-then ! (load ! (from ! (stop !)) (look ! 1 refl)) (no-more !)))) (λ v v-last v-is v-fits. lands-at ! 20 refl (typed W (number w64) v _ v-fits .0) $
       returns ! (look ! 20 refl) $ leaves ! (filled 11 _) refl $ have ! (number w64) v v-fits $ move ! (2 ∷ 6 ∷ 7 ∷ 12 ∷ 3 ∷ 9 ∷ 10 ∷ 5 ∷ 15 ∷ 0 ∷ []) $
       ends ! f.ended (f.clauses 𝓤 H A mem run) κs qs a g (vint w64 v) v (tt, (tt, (tt, (tt, (v-last .1 .1 .0, tt)))))
       (factI 𝓤 _ (emp 𝓤) (answers (λ (col : Column). rowAt col (table .now) (bytes .now) row) (column .now) made made-is c-is (answer-is ∙ ap (rowAt c (table .now) (bytes .now)) w-is) v-is)) _ refl))))))

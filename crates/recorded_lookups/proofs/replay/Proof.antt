@@ -2,7 +2,7 @@
 -- What holds before each turn is `Rounds`' `State`.
 -- Assumes nothing.
 use Rattle.walking.proofs.Walk.{_≡_, refl, _∙_, ap, ℕ, _<_, _^_, List, [], _∷_, length, URA, named, w32, w64, tyInt, tyBool, Val, vbool, vint, SProp, emp, id⊢, Memory, Routine, Heap, Out, Env, WpFn, Tables, Wp, atReturn, afterSeq, afterBlock, afterTurn, Atoms, Fun, factI, givenOf, tables, tablesOf, true, false}
-use Rattle.walking.proofs.Walk.{Given, Item, Sq, runs, anyQ, atRet, _$_, !, move, whole, sub, look-in, look, init, store, stop, fld, from, load, of-opd, no-more, assigns, first, blocks, loops, again, Below, stays, leaves-loop, exec, returns, fmOf, u8, RefT, sliceVal, slice-vals, shr-slice-tells, uint-vals, uint-tells, nothing, Contract, Triple, tripleOf, entered, cited, Lfts}
+use Rattle.walking.proofs.Walk.{Given, Item, Sq, runs, anyQ, atRet, _$_, !, move, whole, sub, look-in, look, init, store, stop, fld, from, load, of-opd, no-more, assigns, first, blocks, loops, again, Below, stays, leaves-loop, exec, returns, fmOf, u8, RefT, sliceVal, slice-vals, shr-slice-tells, uint-vals, uint-tells, nothing, Contract, Triple, tripleOf, entered, cited, Lfts, and-then}
 use Prim.Native.Nat.{_/_, _%_}
 use mathlib.Core.List.{_++_}
 use contract.Lifetimes.{Shares, AllOutlive}
@@ -13,7 +13,7 @@ use Rattle.walking.proofs.Tested.{tested}
 use Rattle.walking.proofs.Locals.{bare, holds, filled, Spots, params, envOf, cellsOf, laid, keeps, leaves}
 use Rattle.walking.proofs.Lending.{toks-of, own-of}
 use Rattle.walking.proofs.Again.{copies}
-use Rattle.walking.proofs.Whole.{calls, calls-last, lands-at, arg, field-of, look-as, two-facts, ends, meets}
+use Rattle.walking.proofs.Whole.{calls, calls-last, lands-at, field-of, look-as, two-facts, ends, meets}
 use Rattle.format.specs.declared.Block.{Block}
 use Rattle.format.specs.declared.Column.{Column}
 use Rattle.format.specs.Outcome.{Outcome}
@@ -113,16 +113,16 @@ module _ {M : Type 1} (𝓤 : URA M) (H : Heap 𝓤) (A : Atoms 𝓤) (mem : Mem
         -- the chunk's block, out of the table
         have ! Own.replay (t .w) (t .fits) $ have ! Ty.column c c-fits $
         calls ! fm of.ended (of.clauses 𝓤 H A mem run) known-of (tt, tt, tt, (c, (t .w, tt)), (vals Ty.column c, (vals Own.replay (t .w), tt))) tt (id⊢ 𝓤 _) (λ k _. k ≡ columnRow c (t .w .at) % 2 ^ 32 / 512) (λ _ _. id⊢ 𝓤 _) (vint w64) (uint-tells w64) refl
-        (arg ! 19 refl (arg ! 7 refl (no-more !))) (λ k _ k-is k-fits. lands-at ! 4 refl (typed W (number w64) k _ k-fits .0) $
+        (and-then ! (load ! (from ! (stop !)) (look ! 19 refl)) (and-then ! (load ! (from ! (stop !)) (look ! 7 refl)) (no-more !))) (λ k _ k-is k-fits. lands-at ! 4 refl (typed W (number w64) k _ k-fits .0) $
         have ! (number w64) k k-fits $ copies ! 27 (κs .0) (Ty.block .row) table refl $ move ! (24 ∷ []) $
         calls ! fm at′.ended (at′.clauses 𝓤 H A mem run) known-at ((κs .0, tt), (qs .0, tt), tt, (table, (k, tt)), (slice-vals table, (uint-vals w64 k, tt))) tt (id⊢ 𝓤 _) (λ d _. d ≡ blockAt (table .now) k) (λ _ _. id⊢ 𝓤 _) (Ty.block .val) (Ty.block .tells) refl
-        (arg ! 17 refl (arg ! 5 refl (no-more !))) (λ d _ d-is d-fits. lands-at ! 2 refl (typed W Ty.block d _ d-fits .0) $
+        (and-then ! (load ! (from ! (stop !)) (look ! 17 refl)) (and-then ! (load ! (from ! (stop !)) (look ! 5 refl)) (no-more !))) (λ d _ d-is d-fits. lands-at ! 2 refl (typed W Ty.block d _ d-fits .0) $
         -- the bytes and the recording are had again, and go to `step`
         have ! Own.replay (t .w) (t .fits) $ copies ! 28 (κs .1 .1 .0) u8 recording refl $ copies ! 28 (κs .1 .0) u8 bytes refl $ have ! Ty.block d d-fits $ have ! (number w64) (length (table .now)) (refl, t-fits) $ have ! Ty.column c c-fits $ move ! (28 ∷ 29 ∷ []) $
         calls-last ! fm st.ended (st.clauses 𝓤 H A mem run) known-step ((κs .1 .0, (κs .1 .1 .0, tt)), (qs .1 .0, (qs .1 .1 .0, tt)), tt, (c, (length (table .now), (d, (bytes, (recording, (t .w, tt)))))), (vals Ty.column c, (uint-vals w64 (length (table .now)), (vals Ty.block d, (slice-vals bytes, (slice-vals recording, (vals Own.replay (t .w), tt))))))) tt
         (factI 𝓤 (UnderWay (c .window .rows) (t .w)) (emp 𝓤) (is-on-hand reads (c .window .rows) (recording .now) (t .w) (t .under-way) test .going))
         (λ w _. Says d w × (left w < left (t .w))) (λ _ _. two-facts 𝓤) (Own.replay .val) (Own.replay .tells) refl
-        (arg ! 19 refl (arg ! 11 refl (arg ! 3 refl (arg ! 15 refl (arg ! 13 refl (arg ! 7 refl (no-more !))))))) (λ w _ w-is w-fits. land-last ! (from ! (stop !)) (store ! 6 refl (typed W Own.replay w _ w-fits .0)) $
+        (and-then ! (load ! (from ! (stop !)) (look ! 19 refl)) (and-then ! (load ! (from ! (stop !)) (look ! 11 refl)) (and-then ! (load ! (from ! (stop !)) (look ! 3 refl)) (and-then ! (load ! (from ! (stop !)) (look ! 15 refl)) (and-then ! (load ! (from ! (stop !)) (look ! 13 refl)) (and-then ! (load ! (from ! (stop !)) (look ! 7 refl)) (no-more !))))))) (λ w _ w-is w-fits. land-last ! (from ! (stop !)) (store ! 6 refl (typed W Own.replay w _ w-fits .0)) $
         move ! (28 ∷ 31 ∷ 32 ∷ 22 ∷ 23 ∷ 24 ∷ 25 ∷ []) $ keeps ! 7 8 En (bare ∷ filled 10 _) refl $
         again ! (R._≺_ reads (c .window .rows) (recording .now)) I t (R.under reads (c .window .rows) (recording .now) w (w-is .0 (table .now) refl (d-is ∙ ap (blockAt (table .now)) k-is) (t .under-way)) w-fits) (w-is .1))))
       where
@@ -158,7 +158,7 @@ module _ {M : Type 1} (𝓤 : URA M) (H : Heap 𝓤) (A : Atoms 𝓤) (mem : Mem
       copies ! 28 (κs .1 .1 .0) u8 recording refl $ have ! (number w32) (c .window .rows) (refl, rows-fit) $ move ! (26 ∷ []) $
       calls ! (fmOf 𝓤 H (W .laws) 𝓣) bg.ended (bg.clauses 𝓤 H A mem run) known-begin ((κs .1 .1 .0, tt), (qs .1 .1 .0, tt), tt, (c .window .rows, (recording, tt)), (uint-vals w32 (c .window .rows), (slice-vals recording, tt))) tt (id⊢ 𝓤 _)
       (λ w _. (read : ℕ → Outcome ℕ) → Replaying read (c .window .rows) (recording .now) w) (λ _ _. id⊢ 𝓤 _) (Own.replay .val) (Own.replay .tells) refl
-      (arg ! 9 refl (arg ! 13 refl (no-more !))) (λ w _ w-is w-fits. lands-at ! 6 refl (typed W Own.replay w _ w-fits .0) $
+      (and-then ! (load ! (from ! (stop !)) (look ! 9 refl)) (and-then ! (load ! (from ! (stop !)) (look ! 13 refl)) (no-more !))) (λ w _ w-is w-fits. lands-at ! 6 refl (typed W Own.replay w _ w-fits .0) $
       move ! (22 ∷ 23 ∷ 29 ∷ 24 ∷ 25 ∷ 26 ∷ 27 ∷ []) $ keeps ! 7 8 (envOf 𝓤 H A (params (code.function .locals) [] ls)) (bare ∷ filled 7 _) refl $
       looped W 𝓣 known-of known-at known-step κs qs bounds a (are .0) t-fits ls (R.under (rowAt c (table .now) (bytes .now)) (c .window .rows) (recording .now) w (w-is (rowAt c (table .now) (bytes .now))) w-fits)))
 

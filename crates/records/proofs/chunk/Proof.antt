@@ -1,14 +1,14 @@
 -- `records::chunk` meets its contract: a walk of its MIR, by hand. It passes the table on to `block_at` and what that gives to `take`, which is given the list for good: three calls, no branch.
 -- Assumes nothing.
 use Rattle.walking.proofs.Walk.{_≡_, refl, _^_, [], _∷_, length, URA, named, w32, w64, vint, SProp, emp, id⊢, Memory, Routine, Heap, WpFn, Tables, Atoms, Fun, factI, givenOf, tables, tablesOf}
-use Rattle.walking.proofs.Walk.{Given, _$_, !, move, whole, sub, look-in, addr, look, init, stop, hop, fld, from, load, of-opd, no-more, assigns, returns, fmOf, uint-vals, uint-tells, u8, u64, slice-vals, shr-slice-tells, plain, Contract, Triple, tripleOf, entered, cited}
+use Rattle.walking.proofs.Walk.{Given, _$_, !, move, whole, sub, look-in, addr, look, init, stop, hop, fld, from, load, of-opd, no-more, assigns, returns, fmOf, uint-vals, uint-tells, u8, u64, slice-vals, shr-slice-tells, plain, Contract, Triple, tripleOf, entered, cited, and-then}
 use Prim.Native.Nat.{_-_, _/_, _%_}
 use denote.Builtin.{ArrayOf}
 use denote.Ref.{ptr-vals, mut-tells}
 use denote.Signature.{Slot}
 use Rattle.walking.proofs.Data.{vals, number, have, typed}
 use Rattle.walking.proofs.Locals.{filled, leaves}
-use Rattle.walking.proofs.Whole.{calls, lands-at, arg, ends, meets}
+use Rattle.walking.proofs.Whole.{calls, lands-at, ends, meets}
 use Rattle.format.specs.Reading.{columnRow, blockAt, rowIn}
 use Rattle.reading.specs.Chunks.{chunkSize}
 use Rattle.chunks.specs.Stretch.{StretchAs}
@@ -55,16 +55,16 @@ module _ {M : Type 1} (𝓤 : URA M) (H : Heap 𝓤) (A : Atoms 𝓤) (mem : Mem
       assigns ! (of-opd ! (load ! (from ! (fld ! refl (stop !))) (look-in ! 14 (sub ! 1 refl (whole !))))) (from ! (stop !)) (init ! 6 refl (tt, record { fits = n-fits })) $
       -- the chunk's block's place
       move ! (23 ∷ 26 ∷ []) $ calls ! fm of.ended (of.clauses 𝓤 H A mem run) known-of (tt, tt, tt, (c, (start, tt)), (vals Ty.column c, (uint-vals w32 start, tt))) tt (id⊢ 𝓤 _) (λ k _. k ≡ columnRow c start % 2 ^ 32 / 512) (λ _ _. id⊢ 𝓤 _) (vint w64) (uint-tells w64) refl
-      (arg ! 17 refl (arg ! 11 refl (no-more !))) (λ k _ k-is k-fits. lands-at ! 4 refl (typed W (number w64) k _ k-fits .0) $
+      (and-then ! (load ! (from ! (stop !)) (look ! 17 refl)) (and-then ! (load ! (from ! (stop !)) (look ! 11 refl)) (no-more !))) (λ k _ k-is k-fits. lands-at ! 4 refl (typed W (number w64) k _ k-fits .0) $
       -- its block
       have ! (number w64) k k-fits $ move ! (21 ∷ 24 ∷ 0 ∷ []) $ calls ! fm at′.ended (at′.clauses 𝓤 H A mem run) known-at ((κs .0, tt), (qs .0, tt), tt, (table, (k, tt)), (slice-vals table, (vals (number w64) k, tt))) tt (id⊢ 𝓤 _) (λ d _. d ≡ blockAt (table .now) k) (λ _ _. id⊢ 𝓤 _) (Ty.block .val) (Ty.block .tells) refl
-      (arg ! 15 refl (arg ! 5 refl (no-more !))) (λ d _ d-is d-fits. lands-at ! 2 refl (typed W Ty.block d _ d-fits .0) $
+      (and-then ! (load ! (from ! (stop !)) (look ! 15 refl)) (and-then ! (load ! (from ! (stop !)) (look ! 5 refl)) (no-more !))) (λ d _ d-is d-fits. lands-at ! 2 refl (typed W Ty.block d _ d-fits .0) $
       -- the chunk, into the list
       assigns ! (addr ! (from ! (hop ! (look ! 8 refl) (stop !)))) (from ! (stop !)) (init ! 0 refl (tt, tt)) $
       have ! (number w32) start (are .1 .1 .1 .0) $ have ! Ty.block d d-fits $ have ! (number w64) n (refl, n-fits) $ have ! Ty.column c (are .0) $ move ! (24 ∷ 25 ∷ 0 ∷ 1 ∷ 2 ∷ 26 ∷ 3 ∷ 27 ∷ []) $
       calls ! fm tk.ended (tk.clauses 𝓤 H A mem run) known-take ((κs .1 .0, (κs .1 .1 .0, tt)), (qs .1 .0, (qs .1 .1 .0, tt)), tt, (c, (n, (d, (bytes, (start, (out, tt)))))), (vals Ty.column c, (vals (number w64) n, (vals Ty.block d, (slice-vals bytes, (uint-vals w32 start, (ptr-vals out, tt))))))) tt (id⊢ 𝓤 _)
       (λ r ws. StretchAs (rowIn c n d (bytes .now)) start (chunkSize (columnRow c start) (c .window .rows - start)) r (out .now) (ws .1 .1 .1 .1 .1 .0)) (λ _ _. id⊢ 𝓤 _) (Ty.stretch .val) (Ty.stretch .tells) refl
-      (arg ! 17 refl (arg ! 7 refl (arg ! 3 refl (arg ! 13 refl (arg ! 11 refl (arg ! 1 refl (no-more !))))))) (λ r ws r-is r-fits. lands-at ! 18 refl (typed W Ty.stretch r _ r-fits .0) $
+      (and-then ! (load ! (from ! (stop !)) (look ! 17 refl)) (and-then ! (load ! (from ! (stop !)) (look ! 7 refl)) (and-then ! (load ! (from ! (stop !)) (look ! 3 refl)) (and-then ! (load ! (from ! (stop !)) (look ! 13 refl)) (and-then ! (load ! (from ! (stop !)) (look ! 11 refl)) (and-then ! (load ! (from ! (stop !)) (look ! 1 refl)) (no-more !))))))) (λ r ws r-is r-fits. lands-at ! 18 refl (typed W Ty.stretch r _ r-fits .0) $
       returns ! (look ! 18 refl) $ leaves ! (filled 10 _) refl $ have ! Ty.stretch r r-fits $ move ! (4 ∷ 7 ∷ 8 ∷ 2 ∷ 5 ∷ 12 ∷ 3 ∷ 14 ∷ 0 ∷ []) $
       ends ! f.ended (f.clauses 𝓤 H A mem run) κs qs a g (Ty.stretch .val r) r (tt, (tt, (tt, (tt, (ws .1 .1 .1 .1 .1 .0, tt))))) (factI 𝓤 _ (emp 𝓤) (by-chunk c (Ty.column-rows c (are .0)) (table .now) (bytes .now) start (c .window .rows - start) k-is d-is r-is)) _ refl))))
 

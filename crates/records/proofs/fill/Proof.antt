@@ -3,7 +3,7 @@
 -- Assumes nothing.
 use Rattle.walking.proofs.Walk.{_≡_, refl, sym, ap, subst, ℕ, _+_, _*_, _<_, _^_, List, [], _∷_, length, URA, fullShare, Local, named, imm, mut, w8, w32, w64, tyInt, tyBool, tyUnit, tyPtr, tyRef, Val, vunit, vbool, vint, vptr, SProp, emp, id⊢, flft, Memory, Routine, Heap, Out, Env, Wp, WpFn, Tables, atReturn, afterSeq, afterBlock, afterTurn, Atoms, Fun, factI, givenOf, tables, tablesOf, true, false, ltb, pointee}
 use Rattle.walking.proofs.Walk.{Given, Item, Sq, runs, anyQ, atRet, ‵, _$_, !, move, drop, feqI, whole, sub, look-in, look, init, store, store-raw, stop, hop, fld, from, load, lit, unit-lit, of-opd, bin, no-more, assigns, assigns-last, first, blocks, loops, again, Below, stays, leaves-loop, exec, returns, fmOf}
-use Rattle.walking.proofs.Walk.{Is, shows, uint-vals, uint-tells, u8, RefT, sliceTy, sliceVal, Room, slice-vals, shr-slice-tells, mut-slice-tells, row, elem-out, elem-put, Lfts, heard, Contract, Triple, tripleOf, entered, cited}
+use Rattle.walking.proofs.Walk.{Is, shows, uint-vals, uint-tells, u8, RefT, sliceTy, sliceVal, Room, slice-vals, shr-slice-tells, mut-slice-tells, row, elem-out, elem-put, Lfts, heard, Contract, Triple, tripleOf, entered, cited, and-then}
 use native.Mathlib.Omega.{arith}
 use borrow.Author.Tests.{ltb-true, ltb-false}
 use mathlib.Core.List.{_++_}
@@ -12,7 +12,7 @@ use denote.Triple.Entry.{Args}
 use Rattle.walking.proofs.Again.{shared, Opened, copies, opens, closes, gives-up}
 use Rattle.walking.proofs.Locals.{holds, bare, filled, these, of-types, Spots, params, envOf, cellsOf, laid, leaves, keeps}
 use Rattle.walking.proofs.Lending.{nothings}
-use Rattle.walking.proofs.Whole.{calls, two-asked, lands-at, arg, look-as, ends, meets-by}
+use Rattle.walking.proofs.Whole.{calls, two-asked, lands-at, look-as, ends, meets-by}
 use Rattle.walking.proofs.Data.{vals, have, typed}
 use Rattle.walking.proofs.Tested.{tested}
 use Rattle.format.specs.declared.Block.{Block}
@@ -79,7 +79,7 @@ module _ {M : Type 1} (𝓤 : URA M) (H : Heap 𝓤) (A : Atoms 𝓤) (mem : Mem
         -- the next block
         have ! Ty.cursor (t .c) (t .fits) $ copies ! 22 (κs .0) u8 bytes refl $ move ! (22 ∷ 0 ∷ 1 ∷ []) $
         calls ! (fmOf 𝓤 H (W .laws) 𝓣) nx.ended (nx.clauses 𝓤 H A mem run) known-next ((κs .0, tt), (qs .0, tt), tt, (bytes, (t .c, tt)), (slice-vals bytes, (vals Ty.cursor (t .c), tt))) tt (two-asked 𝓤 (asked .0) (asked .1)) (λ r _. stepIn (bytes .now) (t .c) ≡ value r) (λ _ _. id⊢ 𝓤 _) (Ty.step .val) (Ty.step .tells) refl
-        (arg ! 17 refl (arg ! 11 refl (no-more !))) (λ r _ e fits. lands-at ! 6 refl (typed W Ty.step r _ fits .0) $
+        (and-then ! (load ! (from ! (stop !)) (look ! 17 refl)) (and-then ! (load ! (from ! (stop !)) (look ! 11 refl)) (no-more !))) (λ r _ e fits. lands-at ! 6 refl (typed W Ty.step r _ fits .0) $
         -- its place, and there it is stored
         assigns ! (bin ! (load ! (from ! (stop !)) (look ! 8 refl)) (lit ! tt) (record { fits = place-fits })) (from ! (stop !)) (init ! 2 refl (tt, record { fits = place-fits })) $
         assigns ! (bin ! (load ! (from ! (fld ! refl (stop !))) (look-in ! 12 (sub ! 0 refl (whole !)))) (load ! (from ! (stop !)) (look ! 2 refl)) tt) (from ! (stop !)) (init ! 0 refl (tt, tt)) $ move ! (21 ∷ []) $
@@ -132,7 +132,7 @@ module _ {M : Type 1} (𝓤 : URA M) (H : Heap 𝓤) (A : Atoms 𝓤) (mem : Mem
       -- the place of the first block
       copies ! 22 (κs .0) u8 bytes refl $ move ! (21 ∷ 0 ∷ 24 ∷ []) $
       calls ! (fmOf 𝓤 H (W .laws) 𝓣) fi.ended (fi.clauses 𝓤 H A mem run) known-first ((κs .0, tt), (qs .0, tt), tt, (bytes, (rows, tt)), (slice-vals bytes, (uint-vals w32 rows, tt))) tt (id⊢ 𝓤 _) (λ c _. c ≡ firstCursor (bytes .now) rows) (λ _ _. id⊢ 𝓤 _) (Ty.cursor .val) (Ty.cursor .tells) refl
-      (arg ! 17 refl (arg ! 15 refl (no-more !))) (λ c _ c-is fits. lands-at ! 10 refl (typed W Ty.cursor c _ fits .0) $
+      (and-then ! (load ! (from ! (stop !)) (look ! 17 refl)) (and-then ! (load ! (from ! (stop !)) (look ! 15 refl)) (no-more !))) (λ c _ c-is fits. lands-at ! 10 refl (typed W Ty.cursor c _ fits .0) $
       assigns ! (of-opd ! (lit ! tt)) (from ! (stop !)) (init ! 8 refl (tt, record { fits = omega arith })) $
       move ! (20 ∷ 22 ∷ []) $ opens ! tt (κs .1 .0) (qs .1 .0) (Ty.block .row) table (slice-vals table) $ move ! (23 ∷ 22 ∷ 0 ∷ 1 ∷ []) $ keeps ! 4 6 (envOf 𝓤 H A (params locals [] ls)) (bare ∷ filled 5 _) refl $
       looped W 𝓣 known-next κs qs bytes rows table (are .1 .1 .0 .0 .1) ls (F.begin (table .now) (bytes .now) rows (are .1 .0 .1) fillable c c-is fits))))

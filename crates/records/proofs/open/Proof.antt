@@ -5,7 +5,7 @@ use Rattle.walking.proofs.Walk.{Given, _$_, !, move, whole, sub, look-in, agg, 
 use native.Mathlib.Omega.{arith}
 use Rattle.walking.proofs.Data.{number, have, typed}
 use Rattle.walking.proofs.Locals.{filled, leaves}
-use Rattle.walking.proofs.Whole.{calls, lands-at, arg, ends, meets}
+use Rattle.walking.proofs.Whole.{calls, lands-at, ends, meets}
 use Rattle.format.specs.Sheets.{openedUnder}
 use Rattle.format.specs.Calls.{OpenedAs}
 use Rattle.records.proofs.Types as Ty
@@ -33,7 +33,7 @@ module _ {M : Type 1} (𝓤 : URA M) (H : Heap 𝓤) (A : Atoms 𝓤) (mem : Mem
       assigns ! (agg ! (and-then ! (load ! (from ! (stop !)) (look ! 2 refl)) (and-then ! (load ! (from ! (fld ! refl (stop !))) (look-in ! 4 (sub ! 1 refl (whole !)))) (no-more !)))) (from ! (stop !)) (init ! 0 refl (tt, (tt, (record { fits = are .1 .0 .0 .1 .0 }, tt)))) $
       have ! (number w32) 1 (refl, omega arith) $ move ! (11 ∷ 12 ∷ 0 ∷ 13 ∷ 14 ∷ []) $
       calls ! (fmOf 𝓤 H (W .laws) 𝓣) un.ended (un.clauses 𝓤 H A mem run) known (κs, qs, tt, (1, (bytes, (table, tt))), (uint-vals w32 1, (slice-vals bytes, (slice-vals table, tt)))) tt (id⊢ 𝓤 _) (λ p ws. OpenedAs (openedUnder 1 (bytes .now) m) p (table .now) (ws .1 .1 .0)) (λ _ _. id⊢ 𝓤 _) (Ty.opened .val) (Ty.opened .tells) refl
-      (and-then ! (lit ! tt) (arg ! 7 refl (arg ! 1 refl (no-more !)))) (λ p ws p-is p-fits. lands-at ! 8 refl (typed W Ty.opened p _ p-fits .0) $
+      (and-then ! (lit ! tt) (and-then ! (load ! (from ! (stop !)) (look ! 7 refl)) (and-then ! (load ! (from ! (stop !)) (look ! 1 refl)) (no-more !)))) (λ p ws p-is p-fits. lands-at ! 8 refl (typed W Ty.opened p _ p-fits .0) $
       returns ! (look ! 8 refl) $ leaves ! (filled 5 _) refl $ have ! Ty.opened p p-fits $ move ! (2 ∷ 3 ∷ 5 ∷ 6 ∷ 0 ∷ []) $
       ends ! f.ended (f.clauses 𝓤 H A mem run) κs qs a g (Ty.opened .val p) p (tt, (ws .1 .1 .0, tt)) (factI 𝓤 _ (emp 𝓤) (first-sheet (bytes .now) m p (table .now) (ws .1 .1 .0) p-is)) _ refl))
 

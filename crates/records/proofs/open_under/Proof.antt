@@ -5,7 +5,7 @@ use Rattle.walking.proofs.Walk.{Given, _$_, !, move, whole, sub, look-in, agg, 
 use Rattle.walking.proofs.Again.{copies}
 use Rattle.walking.proofs.Data.{vals, number, have, typed}
 use Rattle.walking.proofs.Locals.{filled, leaves}
-use Rattle.walking.proofs.Whole.{calls, lands-at, arg, ends, meets}
+use Rattle.walking.proofs.Whole.{calls, lands-at, ends, meets}
 use Rattle.format.specs.Outcome.{stored}
 use Rattle.format.specs.Refusals.{openedMeaning}
 use Rattle.format.specs.Opening.{columnIn}
@@ -51,17 +51,17 @@ module _ {M : Type 1} (𝓤 : URA M) (H : Heap 𝓤) (A : Atoms 𝓤) (mem : Mem
       -- what the opening answers
       have ! (number w64) m (refl, m-fits) $ copies ! 24 (κs .0) u8 bytes refl $ move ! (22 ∷ 24 ∷ 0 ∷ 1 ∷ []) $
       calls ! fm pl.ended (pl.clauses 𝓤 H A mem run) known-plain ((κs .0, tt), (qs .0, tt), tt, (sheet, (bytes, (m, tt))), (uint-vals w32 sheet, (slice-vals bytes, (uint-vals w64 m, tt)))) tt (id⊢ 𝓤 _) (λ p _. openedMeaning p ≡ columnIn (openedUnder sheet (bytes .now) m)) (λ _ _. id⊢ 𝓤 _) (Ty.opened .val) (Ty.opened .tells) refl
-      (arg ! 17 refl (arg ! 15 refl (arg ! 11 refl (no-more !)))) (λ p _ p-is p-fits. lands-at ! 8 refl (typed W Ty.opened p _ p-fits .0) $
+      (and-then ! (load ! (from ! (stop !)) (look ! 17 refl)) (and-then ! (load ! (from ! (stop !)) (look ! 15 refl)) (and-then ! (load ! (from ! (stop !)) (look ! 11 refl)) (no-more !)))) (λ p _ p-is p-fits. lands-at ! 8 refl (typed W Ty.opened p _ p-fits .0) $
       -- the rows whose blocks go to the table
       have ! Ty.opened p p-fits $ calls ! fm tr.ended (tr.clauses 𝓤 H A mem run) known-rows (tt, tt, tt, (p, tt), (vals Ty.opened p, tt)) tt (id⊢ 𝓤 _) (λ rows _. rows ≡ tabled (openedMeaning p)) (λ _ _. id⊢ 𝓤 _) (vint w32) (uint-tells w32) refl
-      (arg ! 9 refl (no-more !)) (λ rows _ rows-is rows-fit. lands-at ! 6 refl (typed W (number w32) rows _ rows-fit .0) $
+      (and-then ! (load ! (from ! (stop !)) (look ! 9 refl)) (no-more !)) (λ rows _ rows-is rows-fit. lands-at ! 6 refl (typed W (number w32) rows _ rows-fit .0) $
       -- the table goes to `fill`, for good
       assigns ! (addr ! (from ! (fld ! refl (hop ! (look-in ! 12 (sub ! 0 refl (whole !))) (stop !))))) (from ! (stop !)) (init ! 2 refl (tt, tt)) $
       assigns ! (agg ! (and-then ! (load ! (from ! (stop !)) (look ! 2 refl)) (and-then ! (load ! (from ! (fld ! refl (stop !))) (look-in ! 12 (sub ! 1 refl (whole !)))) (no-more !)))) (from ! (stop !)) (init ! 0 refl (tt, (tt, (record { fits = m-fits }, tt)))) $
       have ! (number w32) rows rows-fit $ move ! (25 ∷ 21 ∷ 22 ∷ 0 ∷ 23 ∷ []) $
       calls ! fm fl.ended (fl.clauses 𝓤 H A mem run) known-fill ((κs .0, (κs .1 .0, tt)), (qs .0, (qs .1 .0, tt)), tt, (bytes, (rows, (table, tt))), (slice-vals bytes, (uint-vals w32 rows, (slice-vals table, tt)))) tt (factI 𝓤 _ (emp 𝓤) (fillable sheet (bytes .now) m p p-is rows rows-is))
       (λ _ ws. ws .1 .1 .0 ≡ stored (listed (blocksFrom (bytes .now) (firstCursor (bytes .now) rows))) (table .now)) (λ _ _. id⊢ 𝓤 _) (λ _. vunit) (λ _ _ is. is) refl
-      (arg ! 15 refl (arg ! 7 refl (arg ! 1 refl (no-more !)))) (λ _ ws filled-in _. lands-at ! 4 refl (tt, tt) $
+      (and-then ! (load ! (from ! (stop !)) (look ! 15 refl)) (and-then ! (load ! (from ! (stop !)) (look ! 7 refl)) (and-then ! (load ! (from ! (stop !)) (look ! 1 refl)) (no-more !)))) (λ _ ws filled-in _. lands-at ! 4 refl (tt, tt) $
       assigns ! (of-opd ! (load ! (from ! (stop !)) (look ! 8 refl))) (from ! (stop !)) (init ! 18 refl (typed W Ty.opened p _ p-fits .0)) $
       returns ! (look ! 18 refl) $ leaves ! (filled 10 _) refl $ have ! Ty.opened p p-fits $ move ! (6 ∷ 7 ∷ 2 ∷ 3 ∷ 10 ∷ 0 ∷ []) $
       ends ! f.ended (f.clauses 𝓤 H A mem run) κs qs a g (Ty.opened .val p) p (tt, (tt, (ws .1 .1 .0, tt))) (factI 𝓤 _ (emp 𝓤) (opens sheet (bytes .now) m p p-is rows rows-is (table .now) (ws .1 .1 .0) filled-in)) _ refl))))

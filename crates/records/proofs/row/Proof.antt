@@ -1,11 +1,11 @@
 -- `records::row` meets its contract: a walk of its MIR, by hand. It passes the table on to `block_at` and what that gives to `row_in`: three calls, no branch.
 -- Assumes nothing.
 use Rattle.walking.proofs.Walk.{_≡_, refl, _∙_, [], _∷_, length, URA, named, w64, vint, SProp, emp, id⊢, Memory, Routine, Heap, WpFn, Tables, Atoms, Fun, factI, givenOf, tables, tablesOf}
-use Rattle.walking.proofs.Walk.{Given, _$_, !, move, whole, sub, look-in, look, init, stop, fld, from, load, of-opd, no-more, assigns, returns, fmOf, u8, uint-tells, slice-vals, shr-slice-tells, Contract, Triple, tripleOf, entered, cited}
+use Rattle.walking.proofs.Walk.{Given, _$_, !, move, whole, sub, look-in, look, init, stop, fld, from, load, of-opd, no-more, assigns, returns, fmOf, u8, uint-tells, slice-vals, shr-slice-tells, Contract, Triple, tripleOf, entered, cited, and-then}
 use Prim.Native.Nat.{_/_, _%_, _^_}
 use Rattle.walking.proofs.Data.{vals, number, have, typed}
 use Rattle.walking.proofs.Locals.{filled, leaves}
-use Rattle.walking.proofs.Whole.{calls, lands-at, arg, ends, meets}
+use Rattle.walking.proofs.Whole.{calls, lands-at, ends, meets}
 use Rattle.records.proofs.Types as Ty
 use Rattle.format.specs.Refusals.{rowMeaning}
 use Rattle.format.specs.Reading.{columnRow, blockAt, rowIn}
@@ -47,15 +47,15 @@ module _ {M : Type 1} (𝓤 : URA M) (H : Heap 𝓤) (A : Atoms 𝓤) (mem : Mem
       assigns ! (of-opd ! (load ! (from ! (fld ! refl (stop !))) (look-in ! 10 (sub ! 1 refl (whole !))))) (from ! (stop !)) (init ! 4 refl (tt, record { fits = n-fits })) $
       -- the row's block's place
       move ! (18 ∷ 21 ∷ []) $ calls ! fm of.ended (of.clauses 𝓤 H A mem run) known-of (tt, tt, tt, (c, (i, tt)), (vals Ty.column c, (vals Ty.windowRow i, tt))) tt (id⊢ 𝓤 _) (λ k _. k ≡ columnRow c (i .0) % 2 ^ 32 / 512) (λ _ _. id⊢ 𝓤 _) (vint w64) (uint-tells w64) refl
-      (arg ! 13 refl (arg ! 7 refl (no-more !))) (λ k _ k-is k-fits. lands-at ! 2 refl (typed W (number w64) k _ k-fits .0) $
+      (and-then ! (load ! (from ! (stop !)) (look ! 13 refl)) (and-then ! (load ! (from ! (stop !)) (look ! 7 refl)) (no-more !))) (λ k _ k-is k-fits. lands-at ! 2 refl (typed W (number w64) k _ k-fits .0) $
       -- its block
       have ! (number w64) k k-fits $ move ! (17 ∷ 19 ∷ 0 ∷ []) $ calls ! fm at′.ended (at′.clauses 𝓤 H A mem run) known-at ((κs .0, tt), (qs .0, tt), tt, (table, (k, tt)), (slice-vals table, (vals (number w64) k, tt))) tt (id⊢ 𝓤 _) (λ d _. d ≡ blockAt (table .now) k) (λ _ _. id⊢ 𝓤 _) (Ty.block .val) (Ty.block .tells) refl
-      (arg ! 11 refl (arg ! 3 refl (no-more !))) (λ d _ d-is d-fits. lands-at ! 0 refl (typed W Ty.block d _ d-fits .0) $
+      (and-then ! (load ! (from ! (stop !)) (look ! 11 refl)) (and-then ! (load ! (from ! (stop !)) (look ! 3 refl)) (no-more !))) (λ d _ d-is d-fits. lands-at ! 0 refl (typed W Ty.block d _ d-fits .0) $
       -- the row
       have ! Ty.windowRow i (are .1 .1 .1 .0) $ have ! Ty.block d d-fits $ have ! (number w64) n (refl, n-fits) $ have ! Ty.column c (are .0) $ move ! (20 ∷ 0 ∷ 1 ∷ 2 ∷ 21 ∷ 3 ∷ []) $
       calls ! fm in′.ended (in′.clauses 𝓤 H A mem run) known-in ((κs .1 .0, tt), (qs .1 .0, tt), tt, (c, (n, (d, (bytes, (i, tt))))), (vals Ty.column c, (vals (number w64) n, (vals Ty.block d, (slice-vals bytes, (vals Ty.windowRow i, tt)))))) tt (id⊢ 𝓤 _)
       (λ r _. rowMeaning r ≡ rowIn c n d (bytes .now) (i .0)) (λ _ _. id⊢ 𝓤 _) (Ty.rowRead .val) (Ty.rowRead .tells) refl
-      (arg ! 13 refl (arg ! 5 refl (arg ! 1 refl (arg ! 9 refl (arg ! 7 refl (no-more !)))))) (λ r _ r-is r-fits. lands-at ! 14 refl (typed W Ty.rowRead r _ r-fits .0) $
+      (and-then ! (load ! (from ! (stop !)) (look ! 13 refl)) (and-then ! (load ! (from ! (stop !)) (look ! 5 refl)) (and-then ! (load ! (from ! (stop !)) (look ! 1 refl)) (and-then ! (load ! (from ! (stop !)) (look ! 9 refl)) (and-then ! (load ! (from ! (stop !)) (look ! 7 refl)) (no-more !)))))) (λ r _ r-is r-fits. lands-at ! 14 refl (typed W Ty.rowRead r _ r-fits .0) $
       returns ! (look ! 14 refl) $ leaves ! (filled 8 _) refl $ have ! Ty.rowRead r r-fits $ move ! (4 ∷ 7 ∷ 2 ∷ 5 ∷ 11 ∷ 3 ∷ 0 ∷ []) $
       ends ! f.ended (f.clauses 𝓤 H A mem run) κs qs a g (Ty.rowRead .val r) r (tt, (tt, (tt, (tt, tt)))) (factI 𝓤 _ (emp 𝓤) (r-is ∙ by-block c (Ty.column-rows c (are .0)) (table .now) (bytes .now) (i .0) k-is d-is)) _ refl))))
 

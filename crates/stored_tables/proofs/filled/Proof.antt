@@ -7,7 +7,7 @@ use mathlib.Core.List.{_++_}
 use lib.ListN.{take, drop as rest}
 use Rattle.walking.proofs.Data.{vals, number, have, typed}
 use Rattle.walking.proofs.Locals.{filled, leaves}
-use Rattle.walking.proofs.Whole.{calls, lands-at, arg, ends, meets}
+use Rattle.walking.proofs.Whole.{calls, lands-at, ends, meets}
 use Rattle.records.proofs.Types as Ty
 use Rattle.stored_tables.proofs.Lending.{table, sixteen, lent-count, front-back, rest-back, lent, counted, lends-unique, back-unique}
 use Rattle.format.specs.declared.Block.{Block}
@@ -53,14 +53,14 @@ module _ {M : Type 1} (𝓤 : URA M) (H : Heap 𝓤) (A : Atoms 𝓤) (mem : Mem
       (λ κs qs bounds a g are ls. let sheet = a .0 in let bytes = a .1 .0 in let ys = a .1 .1 .0 in let room = a .1 .1 .1 .0 in let fm = fmOf 𝓤 H (W .laws) 𝓣 in
       -- how many blocks are lent
       move ! (24 ∷ []) $ calls ! fm le.ended (le.clauses 𝓤 H A mem run) known-lends (tt, tt, tt, (room, tt), (uint-vals w64 room, tt)) tt (id⊢ 𝓤 _) (λ k _. k ≡ min room 16) (λ _ _. id⊢ 𝓤 _) (vint w64) (uint-tells w64) refl
-      (arg ! 11 refl (no-more !)) (λ k _ k-is k-fits. lands-at ! 8 refl (typed W (number w64) k _ k-fits .0) $
+      (and-then ! (load ! (from ! (stop !)) (look ! 11 refl)) (no-more !)) (λ k _ k-is k-fits. lands-at ! 8 refl (typed W (number w64) k _ k-fits .0) $
       assigns ! (of-opd ! (load ! (from ! (stop !)) (look ! 12 refl))) (from ! (stop !)) (init ! 6 refl (typed W table ys _ (are .1 .1 .0) .0)) $
       assigns ! (addr ! (from ! (stop !))) (from ! (stop !)) (init ! 2 refl (tt, tt)) $ assigns ! (agg ! (and-then ! (load ! (from ! (stop !)) (look ! 2 refl)) (and-then ! (load ! (from ! (stop !)) (look ! 8 refl)) (no-more !)))) (from ! (stop !)) (init ! 0 refl (tt, (tt, (record { fits = k-fits .1 }, tt)))) $
       -- the copy's front is lent for the call
       counted ! 0 (lent-count ys room k (sixteen ys (are .1 .1 .0)) k-is) refl $ lends-unique ! tt 6 ys k (ls .1 .1 .1 .1 .1 .1 .0) (are .1 .1 .0) refl (λ ν γ. let blocks = lent ys k (ls .1 .1 .1 .1 .1 .1 .0) γ in move ! (22 ∷ 0 ∷ 23 ∷ 24 ∷ 1 ∷ []) $
       calls ! fm rr.ended (rr.clauses 𝓤 H A mem run) known-call ((κs .0, (ν ∷ [], tt)), (qs .0, (fullShare, tt)), tt, (sheet, (bytes, (blocks, tt))), (uint-vals w32 sheet, (slice-vals bytes, (slice-vals blocks, tt)))) tt (id⊢ 𝓤 _)
       (λ r ws. OpenedAs (openedUnder sheet (bytes .now) (length (take k ys))) r (take k ys) (ws .1 .1 .0)) (λ _ _. id⊢ 𝓤 _) (Ty.opened .val) (Ty.opened .tells) refl
-      (arg ! 17 refl (arg ! 15 refl (arg ! 1 refl (no-more !)))) (λ r ws r-is r-fits. lands-at ! 4 refl (typed W Ty.opened r _ r-fits .0) $
+      (and-then ! (load ! (from ! (stop !)) (look ! 17 refl)) (and-then ! (load ! (from ! (stop !)) (look ! 15 refl)) (and-then ! (load ! (from ! (stop !)) (look ! 1 refl)) (no-more !)))) (λ r ws r-is r-fits. lands-at ! 4 refl (typed W Ty.opened r _ r-fits .0) $
       -- the copy is whole again, and is what is returned
       move ! (24 ∷ 27 ∷ []) $ back-unique ! tt 6 ys k (ls .1 .1 .1 .1 .1 .1 .0) (are .1 .1 .0) refl (λ long z-fits. let zs = ws .1 .1 .0 ++ rest k ys in
       assigns ! (of-opd ! (load ! (from ! (stop !)) (look ! 6 refl))) (from ! (stop !)) (init ! 18 refl (typed W table zs _ z-fits .0)) $

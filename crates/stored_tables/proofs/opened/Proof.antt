@@ -6,7 +6,7 @@ use Prim.Native.Nat.{min}
 use lib.ListN.{take}
 use Rattle.walking.proofs.Data.{vals, number, have, typed}
 use Rattle.walking.proofs.Locals.{filled, leaves}
-use Rattle.walking.proofs.Whole.{calls, lands-at, arg, ends, meets}
+use Rattle.walking.proofs.Whole.{calls, lands-at, ends, meets}
 use Rattle.records.proofs.Types as Ty
 use Rattle.stored_tables.proofs.Lending.{table, sixteen, lent-count, lent, counted, lends-unique, back-unique}
 use Rattle.format.specs.Sheets.{openedUnder}
@@ -41,14 +41,14 @@ module _ {M : Type 1} (𝓤 : URA M) (H : Heap 𝓤) (A : Atoms 𝓤) (mem : Mem
       (λ κs qs bounds a g are ls. let sheet = a .0 in let bytes = a .1 .0 in let ys = a .1 .1 .0 in let room = a .1 .1 .1 .0 in let fm = fmOf 𝓤 H (W .laws) 𝓣 in
       -- how many blocks are lent
       move ! (22 ∷ []) $ calls ! fm le.ended (le.clauses 𝓤 H A mem run) known-lends (tt, tt, tt, (room, tt), (uint-vals w64 room, tt)) tt (id⊢ 𝓤 _) (λ k _. k ≡ min room 16) (λ _ _. id⊢ 𝓤 _) (vint w64) (uint-tells w64) refl
-      (arg ! 9 refl (no-more !)) (λ k _ k-is k-fits. lands-at ! 6 refl (typed W (number w64) k _ k-fits .0) $
+      (and-then ! (load ! (from ! (stop !)) (look ! 9 refl)) (no-more !)) (λ k _ k-is k-fits. lands-at ! 6 refl (typed W (number w64) k _ k-fits .0) $
       assigns ! (of-opd ! (load ! (from ! (stop !)) (look ! 10 refl))) (from ! (stop !)) (init ! 4 refl (typed W table ys _ (are .1 .1 .0) .0)) $
       assigns ! (addr ! (from ! (stop !))) (from ! (stop !)) (init ! 2 refl (tt, tt)) $ assigns ! (agg ! (and-then ! (load ! (from ! (stop !)) (look ! 2 refl)) (and-then ! (load ! (from ! (stop !)) (look ! 6 refl)) (no-more !)))) (from ! (stop !)) (init ! 0 refl (tt, (tt, (record { fits = k-fits .1 }, tt)))) $
       -- the copy's front is lent for the call
       counted ! 0 (lent-count ys room k (sixteen ys (are .1 .1 .0)) k-is) refl $ lends-unique ! tt 4 ys k (ls .1 .1 .1 .1 .1 .1 .0) (are .1 .1 .0) refl (λ ν γ. let blocks = lent ys k (ls .1 .1 .1 .1 .1 .1 .0) γ in move ! (20 ∷ 0 ∷ 21 ∷ 22 ∷ 1 ∷ []) $
       calls ! fm rr.ended (rr.clauses 𝓤 H A mem run) known-call ((κs .0, (ν ∷ [], tt)), (qs .0, (fullShare, tt)), tt, (sheet, (bytes, (blocks, tt))), (uint-vals w32 sheet, (slice-vals bytes, (slice-vals blocks, tt)))) tt (id⊢ 𝓤 _)
       (λ r ws. OpenedAs (openedUnder sheet (bytes .now) (length (take k ys))) r (take k ys) (ws .1 .1 .0)) (λ _ _. id⊢ 𝓤 _) (Ty.opened .val) (Ty.opened .tells) refl
-      (arg ! 15 refl (arg ! 13 refl (arg ! 1 refl (no-more !)))) (λ r ws r-is r-fits. lands-at ! 16 refl (typed W Ty.opened r _ r-fits .0) $
+      (and-then ! (load ! (from ! (stop !)) (look ! 15 refl)) (and-then ! (load ! (from ! (stop !)) (look ! 13 refl)) (and-then ! (load ! (from ! (stop !)) (look ! 1 refl)) (no-more !)))) (λ r ws r-is r-fits. lands-at ! 16 refl (typed W Ty.opened r _ r-fits .0) $
       move ! (22 ∷ 25 ∷ []) $ back-unique ! tt 4 ys k (ls .1 .1 .1 .1 .1 .1 .0) (are .1 .1 .0) refl (λ _ _.
       returns ! (look ! 16 refl) $ leaves ! (filled 9 _) refl $ have ! Ty.opened r r-fits $ nothing ! $ move ! (5 ∷ 6 ∷ 7 ∷ 0 ∷ 4 ∷ 1 ∷ []) $
       ends ! f.ended (f.clauses 𝓤 H A mem run) κs qs a g (Ty.opened .val r) r (tt, (tt, (tt, (tt, tt)))) (factI 𝓤 _ (emp 𝓤) (r-is .answer ∙ ap (λ (m : ℕ). columnIn (openedUnder sheet (bytes .now) m)) (sym (lent-count ys room k (sixteen ys (are .1 .1 .0)) k-is) ∙ k-is))) _ refl)))))

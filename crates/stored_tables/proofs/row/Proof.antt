@@ -6,7 +6,7 @@ use Prim.Native.Nat.{min}
 use lib.ListN.{take}
 use Rattle.walking.proofs.Data.{vals, number, have, typed}
 use Rattle.walking.proofs.Locals.{filled, leaves}
-use Rattle.walking.proofs.Whole.{calls, lands-at, arg, ends, meets}
+use Rattle.walking.proofs.Whole.{calls, lands-at, ends, meets}
 use Rattle.records.proofs.Types as Ty
 use Rattle.stored_tables.proofs.Lending.{table, sixteen, lent-count, lent, counted, lends-shared, back-shared}
 use Rattle.format.specs.Refusals.{rowMeaning}
@@ -41,13 +41,13 @@ module _ {M : Type 1} (𝓤 : URA M) (H : Heap 𝓤) (A : Atoms 𝓤) (mem : Mem
       assigns ! (of-opd ! (load ! (from ! (stop !)) (look ! 14 refl))) (from ! (stop !)) (init ! 6 refl (typed W table ys _ (are .1 .0) .0)) $
       -- how many blocks are lent
       move ! (23 ∷ []) $ calls ! fm le.ended (le.clauses 𝓤 H A mem run) known-lends (tt, tt, tt, (room, tt), (uint-vals w64 room, tt)) tt (id⊢ 𝓤 _) (λ k _. k ≡ min room 16) (λ _ _. id⊢ 𝓤 _) (vint w64) (uint-tells w64) refl
-      (arg ! 13 refl (no-more !)) (λ k _ k-is k-fits. lands-at ! 4 refl (typed W (number w64) k _ k-fits .0) $
+      (and-then ! (load ! (from ! (stop !)) (look ! 13 refl)) (no-more !)) (λ k _ k-is k-fits. lands-at ! 4 refl (typed W (number w64) k _ k-fits .0) $
       assigns ! (addr ! (from ! (stop !))) (from ! (stop !)) (init ! 2 refl (tt, tt)) $ assigns ! (agg ! (and-then ! (load ! (from ! (stop !)) (look ! 2 refl)) (and-then ! (load ! (from ! (stop !)) (look ! 4 refl)) (no-more !)))) (from ! (stop !)) (init ! 0 refl (tt, (tt, (record { fits = k-fits .1 }, tt)))) $
       -- the copy's front is lent for the call
       counted ! 0 (lent-count ys room k (sixteen ys (are .1 .0)) k-is) refl $ lends-shared ! tt 6 ys k (ls .1 .1 .1 .1 .1 .1 .0) (are .1 .0) refl (λ ν γ. let blocks = lent ys k (ls .1 .1 .1 .1 .1 .1 .0) γ in move ! (0 ∷ 22 ∷ 23 ∷ 1 ∷ 25 ∷ 26 ∷ []) $
       calls ! fm rr.ended (rr.clauses 𝓤 H A mem run) known-call ((ν ∷ [], κs), (fullShare, qs), tt, (column, (blocks, a .1 .1 .1)), (vals Ty.column column, (slice-vals blocks, (slice-vals bytes, (vals Ty.windowRow row, tt))))) tt (id⊢ 𝓤 _)
       (λ r _. rowMeaning r ≡ rowAt column (take k ys) (bytes .now) (row .0)) (λ _ _. id⊢ 𝓤 _) (Ty.rowRead .val) (Ty.rowRead .tells) refl
-      (arg ! 17 refl (arg ! 1 refl (arg ! 11 refl (arg ! 9 refl (no-more !))))) (λ r _ r-is r-fits. lands-at ! 18 refl (typed W Ty.rowRead r _ r-fits .0) $
+      (and-then ! (load ! (from ! (stop !)) (look ! 17 refl)) (and-then ! (load ! (from ! (stop !)) (look ! 1 refl)) (and-then ! (load ! (from ! (stop !)) (look ! 11 refl)) (and-then ! (load ! (from ! (stop !)) (look ! 9 refl)) (no-more !))))) (λ r _ r-is r-fits. lands-at ! 18 refl (typed W Ty.rowRead r _ r-fits .0) $
       move ! (23 ∷ 26 ∷ []) $ back-shared ! tt 6 ys k (ls .1 .1 .1 .1 .1 .1 .0) (are .1 .0) γ refl (λ _.
       returns ! (look ! 18 refl) $ leaves ! (filled 10 _) refl $ have ! Ty.rowRead r r-fits $ nothing ! $ move ! (5 ∷ 6 ∷ 0 ∷ 4 ∷ 7 ∷ 8 ∷ 1 ∷ []) $
       ends ! f.ended (f.clauses 𝓤 H A mem run) κs qs a g (Ty.rowRead .val r) r (tt, (tt, (tt, (tt, (tt, tt))))) (factI 𝓤 _ (emp 𝓤) (r-is ∙ ap (λ (m : ℕ). rowAt column (take m ys) (bytes .now) (row .0)) k-is)) _ refl)))))

@@ -6,7 +6,7 @@ use denote.Struct.Laws as LL
 use Rattle.walking.proofs.Data.{vals, Fits, have, typed}
 use Rattle.walking.proofs.Locals.{filled, leaves}
 use Rattle.walking.proofs.Again.{copies}
-use Rattle.walking.proofs.Whole.{calls, lands-at, arg, ends, meets}
+use Rattle.walking.proofs.Whole.{calls, lands-at, ends, meets}
 use Rattle.format.specs.declared.Column.{Column}
 use Rattle.format.specs.declared.Opened.{Opened}
 use Rattle.format.specs.Refusals.{openedMeaning}
@@ -56,9 +56,9 @@ module _ {M : Type 1} (𝓤 : URA M) (H : Heap 𝓤) (A : Atoms 𝓤) (mem : Mem
       (λ κs qs bounds a g are ls. let sheet = a .0 in let bytes = a .1 .0 in let α = namedLft 1 0 tt κs in let β : NamedLft = record { mir = erased; lft = κs .0 } in let fm = fmOf 𝓤 H (W .laws) 𝓣 in
       copies ! 14 (κs .0) u8 bytes refl $ move ! (13 ∷ 14 ∷ 0 ∷ []) $
       calls ! fm of.ended (of.clauses 𝓤 H A mem run) opens (κs, qs, tt, a, (uint-vals w32 sheet, (slice-vals bytes, tt))) tt (id⊢ 𝓤 _) (λ p _. openedMeaning p ≡ columnIn (viewedUnder sheet (bytes .now))) (λ _ _. id⊢ 𝓤 _) (Ty.opened .val) (Ty.opened .tells) refl
-      (arg ! 9 refl (arg ! 7 refl (no-more !))) (λ p _ p-is p-fits. lands-at ! 4 refl (typed W Ty.opened p _ p-fits .0) $
+      (and-then ! (load ! (from ! (stop !)) (look ! 9 refl)) (and-then ! (load ! (from ! (stop !)) (look ! 7 refl)) (no-more !))) (λ p _ p-is p-fits. lands-at ! 4 refl (typed W Ty.opened p _ p-fits .0) $
       have ! Ty.opened p p-fits $ calls ! fm cf.ended (cf.clauses 𝓤 H A mem run) keeps (tt, tt, tt, (p, tt), (vals Ty.opened p, tt)) tt (id⊢ 𝓤 _) (λ c _. c ≡ columnOr (openedMeaning p)) (λ _ _. id⊢ 𝓤 _) (Ty.column .val) (Ty.column .tells) refl
-      (arg ! 5 refl (no-more !)) (λ c _ c-is c-fits. lands-at ! 2 refl (typed W Ty.column c _ c-fits .0) $
+      (and-then ! (load ! (from ! (stop !)) (look ! 5 refl)) (no-more !)) (λ c _ c-is c-fits. lands-at ! 2 refl (typed W Ty.column c _ c-fits .0) $
       assigns ! (agg ! (and-then ! (load ! (from ! (stop !)) (look ! 6 refl)) (and-then ! (load ! (from ! (stop !)) (look ! 2 refl)) (no-more !)))) (from ! (stop !)) (init ! 0 refl (LL.lawful (Ty.view β) (Ty.vlaws β) 𝓤 H A W .typed (made bytes c) _ (view-fits (κs .0) β bytes c c-fits (are .1 .0)) .0)) $
       assigns ! (agg ! (and-then ! (load ! (from ! (stop !)) (look ! 4 refl)) (and-then ! (load ! (from ! (stop !)) (look ! 0 refl)) (no-more !)))) (from ! (stop !))
       (init ! 10 refl (LL.lawful (G.the-type α) (G′.the-laws α) 𝓤 H A W .typed (told bytes p c) _ (LL.owes (G.the-type α) (G′.the-laws α) (told bytes p c) (p-fits, (view-fits (κs .0) α bytes c c-fits (are .1 .0), tt))) .0)) $

@@ -1,11 +1,11 @@
 -- `view::row` meets its contract: a walk of its MIR, by hand. The view is taken apart, and `row_of` is called with its column and its bytes.
 -- Assumes nothing.
 use Rattle.walking.proofs.Walk.{_≡_, refl, [], _∷_, URA, named, imm, w8, w32, tyInt, tyRef, SProp, emp, id⊢, Memory, Routine, Heap, WpFn, Tables, Atoms, Fun, factI, givenOf, tables, tablesOf}
-use Rattle.walking.proofs.Walk.{Given, ‵, _⊛_, _$_, !, move, drop, split, use1, look, init, stop, from, of-opd, no-more, assigns, returns, fmOf, slice-vals, uint-vals, uint-tells, sliceTy, Contract, Triple, tripleOf, entered, cited, namedLft, all-own, ownAt, rest, own-open, own-out, given, learn}
+use Rattle.walking.proofs.Walk.{Given, ‵, _⊛_, _$_, !, move, drop, split, use1, look, init, stop, from, of-opd, no-more, assigns, returns, fmOf, slice-vals, uint-vals, uint-tells, sliceTy, Contract, Triple, tripleOf, entered, cited, namedLft, all-own, ownAt, rest, own-open, own-out, given, learn, and-then, load}
 use denote.Struct.Laws as LL
 use Rattle.walking.proofs.Data.{vals, have, typed}
 use Rattle.walking.proofs.Locals.{filled, leaves}
-use Rattle.walking.proofs.Whole.{calls, lands-at, arg, field-of, ends, meets}
+use Rattle.walking.proofs.Whole.{calls, lands-at, field-of, ends, meets}
 use Rattle.view.proofs.Types as Ty
 use Rattle.format.specs.Refusals.{rowMeaning}
 use Rattle.format.specs.Reading.{rowAt}
@@ -36,7 +36,7 @@ module _ {M : Type 1} (𝓤 : URA M) (H : Heap 𝓤) (A : Atoms 𝓤) (mem : Mem
       use1 W (‵ (ownAt (Ty.view α .parts) (Ty.vlaws α) 0 (d .bytes)) ⊛ ‵ (rest (Ty.view α .parts) (Ty.vlaws α) 0 (d .bytes, (d .column, tt)))) (own-out 𝓤 H A W (Ty.view α .parts) (Ty.vlaws α) 0 (d .bytes, (d .column, tt))) $ split ! $ move ! (1 ∷ []) $ drop ! $
       have ! Ty.column (d .column) col $ move ! (12 ∷ 0 ∷ 1 ∷ 13 ∷ []) $
       calls ! (fmOf 𝓤 H (W .laws) 𝓣) of.ended (of.clauses 𝓤 H A mem run) known (κs, qs, tt, (d .column, (d .bytes, (i, tt))), (vals Ty.column (d .column), (slice-vals (d .bytes), (uint-vals w32 i, tt)))) tt (id⊢ 𝓤 _) (λ r _. rowMeaning r ≡ rowAt (d .column) [] (d .bytes .now) i) (λ _ _. id⊢ 𝓤 _) (Ty.answer .val) (Ty.answer .tells) refl
-      (arg ! 3 refl (arg ! 1 refl (arg ! 5 refl (no-more !)))) (λ r _ r-is r-fits. lands-at ! 8 refl (typed W Ty.answer r _ r-fits .0) $
+      (and-then ! (load ! (from ! (stop !)) (look ! 3 refl)) (and-then ! (load ! (from ! (stop !)) (look ! 1 refl)) (and-then ! (load ! (from ! (stop !)) (look ! 5 refl)) (no-more !)))) (λ r _ r-is r-fits. lands-at ! 8 refl (typed W Ty.answer r _ r-fits .0) $
       returns ! (look ! 8 refl) $ leaves ! (filled 5 _) refl $ have ! Ty.answer r r-fits $ move ! (2 ∷ 3 ∷ 4 ∷ 0 ∷ []) $
       ends ! f.ended (f.clauses 𝓤 H A mem run) κs qs a g (Ty.answer .val r) r (tt, (tt, tt)) (factI 𝓤 _ (emp 𝓤) r-is) _ refl)))
 

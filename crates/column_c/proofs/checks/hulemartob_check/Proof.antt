@@ -1,12 +1,12 @@
 -- `column_c::checks::hulemartob_check` meets its contract: a walk of its MIR, by hand. Nothing but calls: the kind is made of its number, the column is checked, and one call tells the verdict. A number that is no kind checks under no sheet.
 -- Assumes nothing.
 use Rattle.walking.proofs.Walk.{_≡_, refl, [], _∷_, length, URA, named, w32, vunit, SProp, id⊢, emp, Memory, Routine, Heap, Tables, Atoms, Fun, factI, givenOf, tables, tablesOf, Given, WpFn, u8, u64, uint-vals, uint-tells, slice-vals, shr-slice-tells, mut-slice-tells}
-use Rattle.walking.proofs.Walk.{_$_, !, move, whole, sub, look-in, agg, addr, look, init, stop, hop, fld, from, load, unit-lit, of-opd, and-then, no-more, assigns, land, returns, fmOf, Contract, Triple, tripleOf, entered, cited}
+use Rattle.walking.proofs.Walk.{_$_, !, move, whole, sub, look-in, agg, addr, look, init, stop, hop, fld, from, load, unit-lit, of-opd, and-then, no-more, assigns, returns, fmOf, Contract, Triple, tripleOf, entered, cited}
 use denote.Ref.{ptr-vals, mut-tells}
 use Rattle.walking.proofs.Data.{none, vals, number, have, typed}
 use Rattle.column_c.proofs.Types.{numbers}
 use Rattle.walking.proofs.Locals.{filled, leaves}
-use Rattle.walking.proofs.Whole.{calls, ends, meets}
+use Rattle.walking.proofs.Whole.{calls, lands-at, ends, meets}
 use Rattle.format.specs.Outcome.{Outcome.value}
 use Rattle.format.specs.Refusals.{checkedMeaning}
 use Rattle.format.specs.Sheets.{openedUnder}
@@ -70,23 +70,23 @@ module _ {M : Type 1} (𝓤 : URA M) (H : Heap 𝓤) (A : Atoms 𝓤) (mem : Mem
       (λ κs qs _ a g are _. let kind = a .0 in let sheet = a .1 .0 in let bytes = a .1 .1 .0 in let values = a .1 .1 .1 .0 in let table = a .1 .1 .1 .1 .0 in let verdict = a .1 .1 .1 .1 .1 .0 in let refusal = a .1 .1 .1 .1 .1 .1 .0 in let fm = fmOf 𝓤 H (W .laws) 𝓣 in
       -- the kind of the number, and the sheet
       move ! (39 ∷ []) $ calls ! fm kf.ended (kf.clauses 𝓤 H A mem run) known-kf (tt, tt, tt, (kind, tt), (uint-vals w32 kind, tt)) tt (id⊢ 𝓤 _) (λ known _. knownMeaning known ≡ kindFrom kind) (λ _ _. id⊢ 𝓤 _) (T′.known .val) (T′.known .tells) refl
-      (and-then ! (load ! (from ! (stop !)) (look ! 31 refl)) (no-more !)) (λ known _ known-is known-fits. land ! (from ! (stop !)) (init ! 16 refl (typed W T′.known known _ known-fits .0)) $
+      (and-then ! (load ! (from ! (stop !)) (look ! 31 refl)) (no-more !)) (λ known _ known-is known-fits. lands-at ! 16 refl (typed W T′.known known _ known-fits .0) $
       have ! T′.known known known-fits $ calls ! fm ko.ended (ko.clauses 𝓤 H A mem run) known-ko (tt, tt, tt, (known, tt), (vals T′.known known, tt)) tt (id⊢ 𝓤 _) (λ k _. k ≡ kindOf known) (λ _ _. id⊢ 𝓤 _) (T′.kind .val) (T′.kind .tells) refl
-      (and-then ! (load ! (from ! (stop !)) (look ! 17 refl)) (no-more !)) (λ k _ k-is k-fits. land ! (from ! (stop !)) (init ! 14 refl (typed W T′.kind k _ k-fits .0)) $
+      (and-then ! (load ! (from ! (stop !)) (look ! 17 refl)) (no-more !)) (λ k _ k-is k-fits. lands-at ! 14 refl (typed W T′.kind k _ k-fits .0) $
       have ! T′.known known known-fits $ move ! (0 ∷ 40 ∷ []) $ calls ! fm so.ended (so.clauses 𝓤 H A mem run) known-so (tt, tt, tt, (known, (sheet, tt)), (vals T′.known known, (uint-vals w32 sheet, tt))) tt (id⊢ 𝓤 _) (λ under _. under ≡ sheetOf known sheet) (λ _ _. id⊢ 𝓤 _) (number w32 .val) (number w32 .tells) refl
-      (and-then ! (load ! (from ! (stop !)) (look ! 17 refl)) (and-then ! (load ! (from ! (stop !)) (look ! 29 refl)) (no-more !))) (λ under _ under-is under-fits. land ! (from ! (stop !)) (init ! 12 refl (typed W (number w32) under _ under-fits .0)) $
+      (and-then ! (load ! (from ! (stop !)) (look ! 17 refl)) (and-then ! (load ! (from ! (stop !)) (look ! 29 refl)) (no-more !))) (λ under _ under-is under-fits. lands-at ! 12 refl (typed W (number w32) under _ under-fits .0) $
       -- the check; the table is given for good
       assigns ! (addr ! (from ! (fld ! refl (hop ! (look-in ! 22 (sub ! 0 refl (whole !))) (stop !))))) (from ! (stop !)) (init ! 8 refl (tt, tt)) $
       assigns ! (agg ! (and-then ! (load ! (from ! (stop !)) (look ! 8 refl)) (and-then ! (load ! (from ! (fld ! refl (stop !))) (look-in ! 22 (sub ! 1 refl (whole !)))) (no-more !)))) (from ! (stop !)) (init ! 6 refl (tt, (tt, (record { fits = are .1 .1 .1 .1 .0 .0 .1 .0 }, tt)))) $
       have ! (number w32) under under-fits $ have ! T′.kind k k-fits $ move ! (36 ∷ 37 ∷ 38 ∷ 0 ∷ 1 ∷ 41 ∷ 42 ∷ 43 ∷ []) $ calls ! fm ck.ended (ck.clauses 𝓤 H A mem run) known-ck ((κs .0, (κs .1 .0, (κs .1 .1 .0, tt))), (qs .0, (qs .1 .0, (qs .1 .1 .0, tt))), tt, (k, (under, (bytes, (values, (table, tt))))), (vals T′.kind k, (vals (number w32) under, (slice-vals bytes, (slice-vals values, (slice-vals table, tt)))))) tt (id⊢ 𝓤 _)
       (λ answer answer-last. CheckedAs (openedUnder under (bytes .now) (length (table .now))) (bytes .now) (storedAs k (values .now)) answer (table .now) (answer-last .1 .1 .1 .1 .0)) (λ _ _. id⊢ 𝓤 _) (T′.checked .val) (T′.checked .tells) refl
-      (and-then ! (load ! (from ! (stop !)) (look ! 15 refl)) (and-then ! (load ! (from ! (stop !)) (look ! 13 refl)) (and-then ! (load ! (from ! (stop !)) (look ! 27 refl)) (and-then ! (load ! (from ! (stop !)) (look ! 25 refl)) (and-then ! (load ! (from ! (stop !)) (look ! 7 refl)) (no-more !)))))) (λ answer answer-last answer-is answer-fits. land ! (from ! (stop !)) (init ! 10 refl (typed W T′.checked answer _ answer-fits .0)) $
+      (and-then ! (load ! (from ! (stop !)) (look ! 15 refl)) (and-then ! (load ! (from ! (stop !)) (look ! 13 refl)) (and-then ! (load ! (from ! (stop !)) (look ! 27 refl)) (and-then ! (load ! (from ! (stop !)) (look ! 25 refl)) (and-then ! (load ! (from ! (stop !)) (look ! 7 refl)) (no-more !)))))) (λ answer answer-last answer-is answer-fits. lands-at ! 10 refl (typed W T′.checked answer _ answer-fits .0) $
       -- the answer is told
       assigns ! (addr ! (from ! (hop ! (look ! 20 refl) (stop !)))) (from ! (stop !)) (init ! 2 refl (tt, tt)) $
       assigns ! (addr ! (from ! (hop ! (look ! 18 refl) (stop !)))) (from ! (stop !)) (init ! 0 refl (tt, tt)) $
       have ! T′.checked answer answer-fits $ have ! T′.known known known-fits $ move ! (36 ∷ 37 ∷ 0 ∷ 1 ∷ 38 ∷ 39 ∷ []) $ calls ! fm vt.ended (vt.clauses 𝓤 H A mem run) known-vt ((κs .1 .1 .1 .0, (κs .1 .1 .1 .1 .0, tt)), (qs .1 .1 .1 .0, (qs .1 .1 .1 .1 .0, tt)), tt, (known, (answer, (verdict, (refusal, tt)))), (vals T′.known known, (vals T′.checked answer, (ptr-vals verdict, (ptr-vals refusal, tt))))) tt (id⊢ 𝓤 _)
       (λ u u-last. Tells (after (knownMeaning known) (value (verdictNumbers (checkedMeaning answer)))) (u-last .1 .1 .1 .0) (verdict .now) (u-last .1 .1 .0)) (λ _ _. id⊢ 𝓤 _) (none .val) (none .tells) refl
-      (and-then ! (load ! (from ! (stop !)) (look ! 17 refl)) (and-then ! (load ! (from ! (stop !)) (look ! 11 refl)) (and-then ! (load ! (from ! (stop !)) (look ! 3 refl)) (and-then ! (load ! (from ! (stop !)) (look ! 1 refl)) (no-more !))))) (λ u u-last u-is u-fits. land ! (from ! (stop !)) (init ! 4 refl (typed W none u _ u-fits .0)) $
+      (and-then ! (load ! (from ! (stop !)) (look ! 17 refl)) (and-then ! (load ! (from ! (stop !)) (look ! 11 refl)) (and-then ! (load ! (from ! (stop !)) (look ! 3 refl)) (and-then ! (load ! (from ! (stop !)) (look ! 1 refl)) (no-more !))))) (λ u u-last u-is u-fits. lands-at ! 4 refl (typed W none u _ u-fits .0) $
       assigns ! (of-opd ! (unit-lit !)) (from ! (stop !)) (init ! 32 refl (tt, tt)) $
       returns ! (look ! 32 refl) $ leaves ! (filled 17 _) refl $ have ! none u u-fits $ move ! (6 ∷ 7 ∷ 8 ∷ 14 ∷ 15 ∷ 2 ∷ 5 ∷ 11 ∷ 12 ∷ 13 ∷ 18 ∷ 19 ∷ 0 ∷ []) $
       ends ! f.ended (f.clauses 𝓤 H A mem run) κs qs a g vunit u (tt, (tt, (tt, (tt, (answer-last .1 .1 .1 .1 .0, (u-last .1 .1 .0, (u-last .1 .1 .1 .0, tt)))))))
