@@ -12,7 +12,6 @@ ghost use Rattle.format.specs.Calls.{FoundAs};
 ghost use Rattle.chunks.specs.Rows.{rowsAmong};
 ghost use Rattle.walks.specs.Walks.{Kept.rowsOf, WalkedAs, nextChunk, Going, left, Walking};
 use chunks::cut;
-use chunks::within;
 use format::Block;
 use format::Column;
 use format::Found;
@@ -21,12 +20,16 @@ use format::WindowRow;
 use walks::Walk;
 use walks::Walked;
 
-// One more than `n` if a value lies in the range.
+// One more than `n` if a value lies in the range: if it lies no further above the low end than the high end does, modulo 2^64, which is one comparison and no branch.
 fn tallied(n: usize, low: u64, high: u64, value: u64) -> usize
     requires { ⌜ n + 1 < 2 ^ 64 ⌝ }
     ensures { λ r. ⌜ r ≡ pick (within low high value) (n + 1) n ⌝ }
 {
-    if within(low, high, value) {
+    if high < low {
+        return n;
+    }
+    let span = high - low;
+    if word::sub(value, low) <= span {
         return n + 1;
     }
     n
