@@ -1,8 +1,9 @@
 -- Loops over a plain list of values, the first being row r: the rows that pass a test. Over any test.
 --     Tallying, tally-starts, tally-more, tally-ends          counting them
+--     Sparing, spare-starts, spare-more, spare-ends           counting the others
 --     Gathering, gather-starts, gather-more, gather-ends      gathering them in a buffer
 -- Assumes nothing.
-use Prim.Native.Nat.{ℕ, _+_, _<_, _≤_}
+use Prim.Native.Nat.{ℕ, _+_, _-_, _<_, _≤_}
 use mathlib.Core.Path.{_≡_, refl, sym, ap, _∙_}
 use mathlib.Core.Bool.{Bool, true, false}
 use mathlib.Core.List.{List, [], _∷_, _++_, append-assoc, append-nil}
@@ -48,6 +49,32 @@ module _ (test : ℕ → Bool) where
 
   pub tally-ends : {values : List ℕ} {n i : ℕ} → Tallying values n i → length values ≤ i → (r : ℕ) → n ≡ length (rowsAmong test r values)
   tally-ends {values} {n} {i} f h r = sym (add-zero n) ∙ ap (λ (l : List ℕ). n + length l) (sym (rows-none test (r + i) values i h)) ∙ f .rest r
+
+  -- ---- counting the others
+
+  pub record Sparing (values : List ℕ) (n i : ℕ) : Type 0 where
+    pub kept : ℕ
+    pub sum : n + kept ≡ i
+    pub most : i ≤ length values
+    pub tally : Tallying values kept i
+
+  pub spare-starts : (values : List ℕ) → Sparing values 0 0
+  spare-starts values = record { kept = 0; sum = refl; most = omega arith; tally = tally-starts values }
+
+  spare-by : (t : Bool) (n kept i : ℕ) → n + kept ≡ i → pick t n (n + 1) + pick t (kept + 1) kept ≡ i + 1
+  spare-by true n kept i h = omega arith
+  spare-by false n kept i h = omega arith
+
+  pub spare-more : {values : List ℕ} {n i m : ℕ} → Sparing values n i → i < length values → m ≡ pick (test (getD values i 0)) n (n + 1) → Sparing values m (i + 1)
+  spare-more {values} {n} {i} {m} f h e = record {
+    kept = pick (test (getD values i 0)) (f .kept + 1) (f .kept);
+    sum = rw e (spare-by (test (getD values i 0)) n (f .kept) i (f .sum));
+    most = omega arith;
+    tally = tally-more (f .tally) h refl;
+  }
+
+  pub spare-ends : {values : List ℕ} {n i : ℕ} → Sparing values n i → length values ≤ i → (r : ℕ) → length values - n ≡ length (rowsAmong test r values)
+  spare-ends {values} {n} {i} f h r = let k : length values - n ≡ f .kept = omega (arith, f .sum, f .most) in k ∙ tally-ends (f .tally) h r
 
   -- ---- gathering in a buffer
 

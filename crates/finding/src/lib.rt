@@ -10,6 +10,7 @@ ghost use Rattle.format.specs.Lookup.{lookedUp, within};
 ghost use Rattle.format.specs.Reading.{blockAt, rowAt};
 ghost use Rattle.format.specs.Calls.{FoundAs};
 ghost use Rattle.chunks.specs.Rows.{rowsAmong};
+ghost use Rattle.finding.specs.Counts.{OutsideOf};
 ghost use Rattle.walks.specs.Walks.{Kept.rowsOf, WalkedAs, nextChunk, Going, left, Walking};
 use chunks::cut;
 use format::Block;
@@ -35,8 +36,8 @@ fn tallied(n: usize, low: u64, high: u64, value: u64) -> usize
     n
 }
 
-// How many of some values lie in the range.
-fn count_within(values: &[u64], low: u64, high: u64) -> usize
+// How many of some values lie in the range, one comparison a value.
+fn count_any(values: &[u64], low: u64, high: u64) -> usize
     ensures { λ n. ⌜ ((r : ℕ) → n ≡ length (rowsAmong (within low high) r (now (values .entry)))) ⌝ }
     ensures { λ n. ⌜ n ≤ length (now (values .entry)) ⌝ }
 {
@@ -47,6 +48,45 @@ fn count_within(values: &[u64], low: u64, high: u64) -> usize
         i += 1;
     }
     n
+}
+
+// Internal: asks for a range of at most 2^63 values, and a count with room. One more than `n` if a value lies outside the range: the top bit of how far it lies above the low end, or of what is then left of the range.
+fn passed_over(n: usize, low: u64, span: u64, value: u64) -> usize
+    requires { ⌜ (span < 2 ^ 63) × (low + span < 2 ^ 64) × (n + 1 < 2 ^ 64) ⌝ }
+    ensures { λ r. ⌜ r ≡ pick (within low (low + span) value) n (n + 1) ⌝ }
+{
+    let above = word::sub(value, low);
+    let beyond = (above | word::sub(span, above)) >> 63;
+    n + beyond as usize
+}
+
+// Internal: asks for a range of at most 2^63 values. How many of some values lie outside it: no comparison, which the compiler would have to make up out of other operations where it works on two values at once.
+fn count_outside(values: &[u64], low: u64, span: u64) -> usize
+    requires { ⌜ (span < 2 ^ 63) × (low + span < 2 ^ 64) ⌝ }
+    ensures { λ n. ⌜ OutsideOf low (low + span) n (now (values .entry)) ⌝ }
+{
+    let mut n = 0;
+    let mut i = 0;
+    while i < values.len() {
+        n = passed_over(n, low, span, values[i]);
+        i += 1;
+    }
+    n
+}
+
+// How many of some values lie in the range.
+fn count_within(values: &[u64], low: u64, high: u64) -> usize
+    ensures { λ n. ⌜ ((r : ℕ) → n ≡ length (rowsAmong (within low high) r (now (values .entry)))) ⌝ }
+    ensures { λ n. ⌜ n ≤ length (now (values .entry)) ⌝ }
+{
+    if high < low {
+        return count_any(values, low, high);
+    }
+    let span = high - low;
+    if 0x8000_0000_0000_0000 <= span {
+        return count_any(values, low, high);
+    }
+    values.len() - count_outside(values, low, span)
 }
 
 // Stores a row at an entry of a list, if the list has it.
@@ -74,8 +114,8 @@ fn gather_rows(values: &[u64], low: u64, high: u64, row: u32, kept: &mut [u32; 5
     n
 }
 
-// Internal: asks for entries that can be counted. Stores rows from entry `at` on, as far as the list has entries.
-fn file_rows(rows: &[u32], found: &mut [u32], at: usize)
+// Internal: asks for entries that can be counted. Stores rows from entry `at` on, one by one, as far as the list has entries.
+fn put_rows(rows: &[u32], found: &mut [u32], at: usize)
     requires { ⌜ at + length (now rows) < 2 ^ 64 ⌝ }
     ensures { λ _. ⌜ now (found .exit) ≡ sets (now (found .entry)) at (now (rows .entry)) ⌝ }
 {
@@ -84,6 +124,30 @@ fn file_rows(rows: &[u32], found: &mut [u32], at: usize)
         put(found, at + i, rows[i]);
         i += 1;
     }
+}
+
+// Internal: asks for room. Copies rows into a list from entry `at` on.
+fn copy_rows(rows: &[u32], found: &mut [u32], at: usize)
+    requires { ⌜ at + length (now rows) ≤ length (now found) ⌝ }
+    ensures { λ _. ⌜ now (found .exit) ≡ sets (now (found .entry)) at (now (rows .entry)) ⌝ }
+{
+    let mut i = 0;
+    while i < rows.len() {
+        found[at + i] = rows[i];
+        i += 1;
+    }
+}
+
+// Internal: asks for entries that can be counted. Stores rows from entry `at` on, as far as the list has entries: one test for all of them, where it has.
+fn file_rows(rows: &[u32], found: &mut [u32], at: usize)
+    requires { ⌜ at + length (now rows) < 2 ^ 64 ⌝ }
+    ensures { λ _. ⌜ now (found .exit) ≡ sets (now (found .entry)) at (now (rows .entry)) ⌝ }
+{
+    if found.len() < at + rows.len() {
+        put_rows(rows, found, at);
+        return;
+    }
+    copy_rows(rows, found, at);
 }
 
 // Internal: asks for rows below 2^32, 512 of them at most, and no more entries before `at` than rows before `row`. Stores the rows whose values lie in the range, the first value's row being `row`, from entry `at` on, and returns

@@ -1,12 +1,12 @@
--- `finding::file_rows` meets its contract, by the invariant `CopiedTo`.
+-- `finding::put_rows` meets its contract, by the invariant `CopiedTo`.
 -- Assumes nothing.
 use Prim.Native.Nat.{_-_}
 use native.Mathlib.Omega.{arith}
 use lib.ListN.{length}
 use Rattle.chunks.proofs.Copies.{CopiedTo, copy-starts, copy-more, copy-ends}
 use borrow.Author.Needs.{needs}
-use Rattle.finding.proofs.file_rows.Statement.{statement}
-use Rattle.finding.proofs.file_rows.Tie as tie
+use Rattle.finding.proofs.put_rows.Statement.{statement}
+use Rattle.finding.proofs.put_rows.Tie as tie
 
 abbrev Inv-loop : tie.InvT-loop
 Inv-loop rows found₀ at i₀ found i = CopiedTo rows found₀ at found i
@@ -47,8 +47,8 @@ same-length c = c .before .loop .inv .long
 returns : tie.Need-returns Inv-loop μ-loop
 returns c = copy-ends (c .before .loop .inv) (c .loop-test .left)
 
-pub file-rows-spec : {M : Type 1} → statement M
-file-rows-spec =
+pub put-rows-spec : {M : Type 1} → statement M
+put-rows-spec =
     tie.close
     (tie.spec
     Inv-loop
