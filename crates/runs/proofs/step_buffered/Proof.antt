@@ -1,11 +1,11 @@
--- `runs::step` meets its contract: the buffer's front is as long as the chunk.
+-- `runs::step_buffered` meets its contract: the buffer's front is as long as the chunk.
 -- Assumes nothing.
 use mathlib.Core.Path.{refl, sym, _∙_}
 use native.Mathlib.Omega.{arith}
 use Rattle.format.proofs.Lists.{front-length}
 use borrow.Author.Needs.{needs}
-use Rattle.runs.proofs.step.Statement.{statement}
-use Rattle.runs.proofs.step.Tie as tie
+use Rattle.runs.proofs.step_buffered.Statement.{statement}
+use Rattle.runs.proofs.step_buffered.Tie as tie
 
 chunk-of-requires : tie.Need-chunk-of-requires
 chunk-of-requires c κs = search needs
@@ -28,8 +28,8 @@ same-length c = search needs
 returns : tie.Need-returns
 returns c = search needs
 
-pub step-spec : {M : Type 1} → statement M
-step-spec =
+pub step-buffered-spec : {M : Type 1} → statement M
+step-buffered-spec =
     tie.close
     (tie.spec
     chunk-of-requires
