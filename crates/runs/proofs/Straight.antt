@@ -1,10 +1,11 @@
 -- A chunk decoded where it is to stand, in the second pass of a run over several chunks. Over any reading.
 --     placed           a part of a list, lent and given back, as stores
+--     looks            a pass that looks stores no chunk
 --     straight         no row is refused there, so that the list is what storing leaves
 -- Assumes nothing.
 use Prim.Native.Nat.{ℕ, _+_, _-_, _%_, _≤_, _<_}
 use mathlib.Core.Path.{_≡_, refl, sym, ap, _∙_}
-use mathlib.Core.Bool.{true}
+use mathlib.Core.Bool.{true, false}
 use mathlib.Core.Logic.{⊎-elim}
 use mathlib.Core.List.{List, _++_, append-assoc}
 use native.Mathlib.Omega.{arith}
@@ -42,6 +43,10 @@ placed read first from size to l part d end inside kept found =
       long = kept ∙ lent;
       list = there l part from to size end inside (kept ∙ lent);
     }
+
+pub looks : (w : Walk) (d : Decoded) → w .storing ≡ false → stores w d ≡ false
+looks w Whole e = e
+looks w (NotDecoded x) e = refl
 
 module _ {read : ℕ → Outcome ℕ} {window : Window} {o : Outcome (List ℕ)} {before list : List ℕ} {w : Walk} (f : InPass allValues read window o before w list) (size : ℕ) (chunk : size ≡ nextChunk w) (on : w .storing ≡ true) (several : size < w .end - w .first) where
   -- a second pass refuses no row

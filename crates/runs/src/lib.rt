@@ -142,7 +142,25 @@ fn step_straight(
     walks::behind(w, decoded, size, size, room)
 }
 
-// Internal: asks for what `step` asks. One turn with a buffer: of a pass that looks, or of a run that is one chunk, since a refused one leaves the list.
+// Internal: asks for a pass that looks. One turn: whether the chunk has values.
+fn step_looking(
+    column: Column,
+    blocks: usize,
+    block: Block,
+    bytes: &[u8],
+    w: Walk,
+    size: usize,
+    room: usize,
+) -> Walk
+    requires { ⌜ Going w × (w .base ≡ column .window .first) × (w .end ≤ column .window .rows) × (size ≡ nextChunk w) × (w .storing ≡ false) ⌝ }
+    ensures { λ r. ⌜ ((table : List Block) (before list : List ℕ) (o : Outcome (List ℕ)) → blocks ≡ length table → block ≡ blockAt table ((w .base + w .at) % 2 ^ 32 / 512) → room ≡ length list → Walking allValues (rowAt column table (now (bytes .entry))) (column .window) o before w list → Walking allValues (rowAt column table (now (bytes .entry))) (column .window) o before r list) ⌝ }
+    ensures { λ r. ⌜ left r < left w ⌝ }
+{
+    let decoded = looking::look(column, blocks, block, bytes, w.at, size);
+    walks::behind(w, decoded, size, size, room)
+}
+
+// Internal: asks for what `step` asks. One turn with a buffer: of a run that is one chunk, since a refused one leaves the list.
 fn step_buffered(
     column: Column,
     blocks: usize,
@@ -174,10 +192,12 @@ pub fn step(
     ensures { λ r. ⌜ left r < left w ⌝ }
 {
     let size = walks::chunk_of(w);
-    if w.storing {
-        if size < out.len() {
-            return step_straight(column, blocks, block, bytes, w, size, out);
-        }
+    let room = out.len();
+    if !w.storing {
+        return step_looking(column, blocks, block, bytes, w, size, room);
+    }
+    if size < room {
+        return step_straight(column, blocks, block, bytes, w, size, out);
     }
     step_buffered(column, blocks, block, bytes, w, out)
 }
