@@ -83,6 +83,33 @@ fn scale_rows(area: &[u8], width: u8, column: Column, first: u32, out: &mut [u64
     i
 }
 
+// Whether a column's values are its numbers above the minimum, at a width of fewer than 64 bits.
+fn is_plain(gcd: u64, width: u8) -> bool
+    ensures { λ r. ⌜ (r ≡ true → (gcd ≡ 1) × (width < 64)) ⌝ }
+{
+    if gcd != 1 {
+        return false;
+    }
+    width < 64
+}
+
+// The same rows. Those of a plain column are unpacked as a whole and raised as a whole; only where one of them is above the count does it take the way of the others, row by row.
+fn scale_run(area: &[u8], width: u8, column: Column, first: u32, out: &mut [u64]) -> usize
+    requires { ⌜ legal width ≡ true ⌝ }
+    requires { ⌜ (column .minimum + column .count * column .gcd < 2 ^ 64) × (width < 64 → column .count < 2 ^ 63) ⌝ }
+    requires { ⌜ first + length (now out) ≤ 2 ^ 32 ⌝ }
+    ensures { λ n. ⌜ filledTo n first (now (out .exit)) ≡ readRun (λ (r : ℕ). scaled column r (unpack width (now (area .entry)) r)) first (length (now (out .entry))) ⌝ }
+{
+    if !is_plain(column.gcd, width) {
+        return scale_rows(area, width, column, first, out);
+    }
+    bitpacker::get_run(area, width, first, out);
+    if raising::raise(out, column.minimum, column.count) == 0 {
+        return out.len();
+    }
+    scale_rows(area, width, column, first, out)
+}
+
 // Internal: asks for the same, and for rows below 2^32. The values of the rows from `first` on, as many as the list has room for, up to the first that is out of bounds: returns how many.
 pub fn get_range(column: Column, bytes: &[u8], first: ColumnRow, out: &mut [u64]) -> usize
     requires { ⌜ Readable column (now bytes) ⌝ }
@@ -91,5 +118,5 @@ pub fn get_range(column: Column, bytes: &[u8], first: ColumnRow, out: &mut [u64]
 {
     let start = column.start;
     let width = bitpacker::compute_num_bits(column.count);
-    scale_rows(&bytes[start..], width, column, first.0, out)
+    scale_run(&bytes[start..], width, column, first.0, out)
 }

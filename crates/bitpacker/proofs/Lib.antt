@@ -1,1 +1,2 @@
 pub mod PackerLaws
+pub mod RunLaws

@@ -9,7 +9,9 @@ ghost use Prim.Native.Nat.{ℕ, _+_, _-_, _*_, _/_, _%_, _^_, _≤_, _<_};
 ghost use lib.ListN.{length, take, drop};
 ghost use Rattle.format.specs.Word.{bytesFor};
 ghost use Rattle.format.specs.Packing.{width, legal, bitsOf, bytesOf, packed, bytesNum, numBytes, unpack};
+ghost use lib.Dec.{leb};
 ghost use Rattle.bitpacker.specs.Packer.{Packs, Writable, Closable, Packable};
+ghost use Rattle.bitpacker.specs.Runs.{Part, Unpacked, Groups, Singly, Reached};
 
 // The width of `n`: its bit length, where 57 to 63 become 64.
 pub fn compute_num_bits(n: u64) -> u8
@@ -203,4 +205,157 @@ pub fn get(area: &[u8], width: u8, index: u32) -> u64
     ensures { λ r. ⌜ r ≡ unpack width (now (area .entry)) index ⌝ }
 {
     get_at(area, width, (index as usize) * (width as usize))
+}
+
+// The numbers of the rows from `first + from` to `first + to`, one by one.
+fn singly(area: &[u8], width: u8, first: u32, from: usize, to: usize, out: &mut [u64])
+    requires { ⌜ Singly width first from to (length (now out)) ⌝ }
+    ensures { λ _. ⌜ (Unpacked width (now (area .entry)) first from (now (out .entry)) → Unpacked width (now (area .entry)) first to (now (out .exit))) ⌝ }
+{
+    let step = width as usize;
+    let mut bit = (first as usize + from) * step;
+    let mut i = from;
+    while i < to {
+        out[i] = get_at(area, width, bit);
+        bit += step;
+        i += 1;
+    }
+}
+
+// Eight bytes from `at` on as a number, little end first.
+fn eight(area: &[u8], at: usize) -> u64
+    requires { ⌜ at + 8 ≤ length (now area) ⌝ }
+    ensures { λ r. ⌜ r ≡ bytesNum (take 8 (drop at (now (area .entry)))) ⌝ }
+{
+    gather(area, at, 8)
+}
+
+// Number `k` of eight that start with byte `at`, of `8 * whole + rest` bits each. Where `rest` and `k` are literals the byte and the shift are, but for the multiple of `whole`.
+fn part(area: &[u8], at: usize, whole: usize, rest: usize, k: usize, width: u8) -> u64
+    requires { ⌜ Part (length (now area)) at whole rest k width ⌝ }
+    ensures { λ r. ⌜ ((index : ℕ) → index * width ≡ 8 * at + k * width → r ≡ unpack width (now (area .entry)) index) ⌝ }
+{
+    let word = eight(area, at + k * whole + k * rest / 8);
+    field(word, k * rest % 8, width)
+}
+
+// Puts it to its entry.
+fn put_part(
+    area: &[u8],
+    at: usize,
+    whole: usize,
+    rest: usize,
+    k: usize,
+    width: u8,
+    out: &mut [u64],
+    i: usize,
+)
+    requires { ⌜ Part (length (now area)) at whole rest k width × (i + k < length (now out)) ⌝ }
+    ensures { λ _. ⌜ ((first : ℕ) → (first + i) * width ≡ 8 * at → Unpacked width (now (area .entry)) first (i + k) (now (out .entry)) → Unpacked width (now (area .entry)) first (i + k + 1) (now (out .exit))) ⌝ }
+{
+    out[i + k] = part(area, at, whole, rest, k, width);
+}
+
+// The eight numbers that start with byte `at`, to the entries from `i` on.
+fn put_eight(
+    area: &[u8],
+    at: usize,
+    whole: usize,
+    rest: usize,
+    width: u8,
+    out: &mut [u64],
+    i: usize,
+)
+    requires { ⌜ Part (length (now area)) at whole rest 7 width × (i + 8 ≤ length (now out)) ⌝ }
+    ensures { λ _. ⌜ ((first : ℕ) → (first + i) * width ≡ 8 * at → Unpacked width (now (area .entry)) first i (now (out .entry)) → Unpacked width (now (area .entry)) first (i + 8) (now (out .exit))) ⌝ }
+{
+    put_part(area, at, whole, rest, 0, width, out, i);
+    put_part(area, at, whole, rest, 1, width, out, i);
+    put_part(area, at, whole, rest, 2, width, out, i);
+    put_part(area, at, whole, rest, 3, width, out, i);
+    put_part(area, at, whole, rest, 4, width, out, i);
+    put_part(area, at, whole, rest, 5, width, out, i);
+    put_part(area, at, whole, rest, 6, width, out, i);
+    put_part(area, at, whole, rest, 7, width, out, i);
+}
+
+// The numbers of the rows from `first + from` on, eight rows at a time: such a row starts with a byte, and so does the eighth behind it.
+fn groups(area: &[u8], width: u8, rest: usize, first: u32, from: usize, to: usize, out: &mut [u64])
+    requires { ⌜ Groups width rest first from to (length (now area)) (length (now out)) ⌝ }
+    ensures { λ _. ⌜ (Unpacked width (now (area .entry)) first from (now (out .entry)) → Unpacked width (now (area .entry)) first to (now (out .exit))) ⌝ }
+{
+    let step = width as usize;
+    let whole = step / 8;
+    let mut at = (first as usize + from) * step / 8;
+    let mut i = from;
+    while i < to {
+        put_eight(area, at, whole, rest, width, out, i);
+        at += step;
+        i += 8;
+    }
+}
+
+// The same, with a loop of its own for each rest of the width by 8, which alone decides the eight shifts: in each they are literals. There is no other rest.
+fn groups_by_rest(area: &[u8], width: u8, first: u32, from: usize, to: usize, out: &mut [u64])
+    requires { ⌜ Groups width (width % 8) first from to (length (now area)) (length (now out)) ⌝ }
+    ensures { λ _. ⌜ (Unpacked width (now (area .entry)) first from (now (out .entry)) → Unpacked width (now (area .entry)) first to (now (out .exit))) ⌝ }
+{
+    match width % 8 {
+        0 => groups(area, width, 0, first, from, to, out),
+        1 => groups(area, width, 1, first, from, to, out),
+        2 => groups(area, width, 2, first, from, to, out),
+        3 => groups(area, width, 3, first, from, to, out),
+        4 => groups(area, width, 4, first, from, to, out),
+        5 => groups(area, width, 5, first, from, to, out),
+        6 => groups(area, width, 6, first, from, to, out),
+        7 => groups(area, width, 7, first, from, to, out),
+        _ => singly(area, width, first, from, to, out),
+    }
+}
+
+// Whether eight bytes can be loaded at every row before `row`, in an area of `size` bytes.
+fn loads_before(size: usize, width: u8, row: usize) -> bool
+    requires { ⌜ (row ≤ 2 ^ 32) × (width ≤ 64) ⌝ }
+    ensures { λ r. ⌜ r ≡ leb (row * width / 8 + 8) size ⌝ }
+{
+    row * (width as usize) / 8 + 8 <= size
+}
+
+// The entry up to which whole groups of eight from entry `from` on can be loaded: all of them, or all but the last eight groups, or none.
+fn groups_end(size: usize, width: u8, first: u32, from: usize, rows: usize) -> usize
+    requires { ⌜ (first + rows ≤ 2 ^ 32) × (width ≤ 64) ⌝ }
+    ensures { λ r. ⌜ (from < r → Reached width first from r size rows) ⌝ }
+{
+    if rows < from {
+        return from;
+    }
+    let all = rows - (rows - from) % 8;
+    if loads_before(size, width, first as usize + all) {
+        return all;
+    }
+    if all < 64 {
+        return from;
+    }
+    if loads_before(size, width, first as usize + (all - 64)) {
+        return all - 64;
+    }
+    from
+}
+
+// Internal: asks for a legal width and rows below 2^32. The numbers of the rows from `first` on, as many as the list has room for: eight at a time from the first row that
+// starts with a byte whatever the width, as far as the area has eight bytes to load at each, and the others one by one.
+pub fn get_run(area: &[u8], width: u8, first: u32, out: &mut [u64])
+    requires { ⌜ (legal width ≡ true) × (first + length (now out) ≤ 2 ^ 32) ⌝ }
+    ensures { λ _. ⌜ Unpacked width (now (area .entry)) first (length (now (out .entry))) (now (out .exit)) ⌝ }
+{
+    let rows = out.len();
+    let from = ((8 - first % 8) % 8) as usize;
+    let to = groups_end(area.len(), width, first, from, rows);
+    if to <= from {
+        singly(area, width, first, 0, rows, out);
+        return;
+    }
+    singly(area, width, first, 0, from, out);
+    groups_by_rest(area, width, first, from, to, out);
+    singly(area, width, first, to, rows, out);
 }

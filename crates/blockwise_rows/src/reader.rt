@@ -111,6 +111,34 @@ fn line_rows(
     i
 }
 
+// Whether a column's values are their multiples above the minimum, and these below 2^63.
+fn is_plain(gcd: u64, count: u64) -> bool
+    ensures { λ r. ⌜ (r ≡ true → (gcd ≡ 1) × (count < 2 ^ 63)) ⌝ }
+{
+    if gcd != 1 {
+        return false;
+    }
+    count < 0x8000_0000_0000_0000
+}
+
+// The same rows. Those of a plain column are unpacked as a whole and raised by the line as a whole; only where one of them is above the count does it take the way of the others, row by row.
+fn line_run(area: &[u8], line: Line, bits: u8, column: Column, first: u32, out: &mut [u64]) -> usize
+    requires { ⌜ legal bits ≡ true ⌝ }
+    requires { ⌜ column .minimum + column .count * column .gcd < 2 ^ 64 ⌝ }
+    requires { ⌜ first % 512 + length (now out) ≤ 512 ⌝ }
+    ensures { λ n. ⌜ filledTo n first (now (out .exit)) ≡ readRun (λ (r : ℕ). scaled column r (modAdd (lineAt line (r % 512)) (unpack bits (now (area .entry)) (r % 512)))) first (length (now (out .entry))) ⌝ }
+{
+    if !is_plain(column.gcd, column.count) {
+        return line_rows(area, line, bits, column, first, out);
+    }
+    let from = split(ColumnRow(first)).row.0;
+    bitpacker::get_run(area, bits, from, out);
+    if raising::raise_by_line(out, line, from as u64, 0, column.minimum, column.count) == 0 {
+        return out.len();
+    }
+    line_rows(area, line, bits, column, first, out)
+}
+
 // Internal: asks for the same, and for rows of one block. The values of the rows of a block from `first` on, as many as the list has room for, up to the first that is out of bounds: returns how many.
 pub fn get_range(
     column: Column,
@@ -124,7 +152,7 @@ pub fn get_range(
     ensures { λ n. ⌜ filledTo n (first .0) (now (out .exit)) ≡ readRun (valueAt column block (now (bytes .entry))) (first .0) (length (now (out .entry))) ⌝ }
 {
     let start = numbers_start(column, block);
-    line_rows(
+    line_run(
         &bytes[start..],
         block.line,
         block.bits as u8,

@@ -2,3 +2,4 @@
 
 pub mod Beginnings
 pub mod Scans
+pub mod Ranges

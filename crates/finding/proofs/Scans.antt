@@ -1,16 +1,17 @@
 -- Loops over a plain list of values, the first being row r: the rows that pass a test. Over any test.
 --     Tallying, tally-starts, tally-more, tally-ends          counting them
---     Filing, file-starts, file-more, file-ends               storing them
+--     Sparing, spare-starts, spare-more, spare-ends           counting the others
+--     Gathering, gather-starts, gather-more, gather-ends      gathering them in a buffer
 -- Assumes nothing.
-use Prim.Native.Nat.{ℕ, _+_, _<_, _≤_}
+use Prim.Native.Nat.{ℕ, _+_, _-_, _<_, _≤_}
 use mathlib.Core.Path.{_≡_, refl, sym, ap, _∙_}
 use mathlib.Core.Bool.{Bool, true, false}
-use mathlib.Core.List.{List, _∷_}
-use native.Mathlib.Nat.{add-zero, zero-add, add-assoc}
+use mathlib.Core.List.{List, [], _∷_, _++_, append-assoc, append-nil}
+use native.Mathlib.Nat.{add-zero, zero-add, add-assoc, le-refl}
 use native.Mathlib.Numerals.{add-one}
 use native.Mathlib.Omega.{arith}
-use lib.ListN.{length, drop, getD, set, length-set}
-use lib.Seq.{sets}
+use lib.ListN.{length, take, drop, getD, set, length-set}
+use lib.Seq.{take-suc-set, take-set-le}
 use Rattle.format.specs.Outcome.{pick}
 use Rattle.chunks.specs.Rows.{rowsAmong}
 use Rattle.chunks.proofs.Rows.{rows-next, rows-none}
@@ -49,52 +50,68 @@ module _ (test : ℕ → Bool) where
   pub tally-ends : {values : List ℕ} {n i : ℕ} → Tallying values n i → length values ≤ i → (r : ℕ) → n ≡ length (rowsAmong test r values)
   tally-ends {values} {n} {i} f h r = sym (add-zero n) ∙ ap (λ (l : List ℕ). n + length l) (sym (rows-none test (r + i) values i h)) ∙ f .rest r
 
-  -- ---- storing
+  -- ---- counting the others
 
-  pub record Filing (values : List ℕ) (row at : ℕ) (before list : List ℕ) (n i : ℕ) : Type 0 where
-    pub small : n ≤ row + i
-    pub long : length list ≡ length before
-    pub count : n + length (rowsAmong test (row + i) (drop i values)) ≡ at + length (rowsAmong test row values)
-    pub rest : sets list n (rowsAmong test (row + i) (drop i values)) ≡ sets before at (rowsAmong test row values)
+  pub record Sparing (values : List ℕ) (n i : ℕ) : Type 0 where
+    pub kept : ℕ
+    pub sum : n + kept ≡ i
+    pub most : i ≤ length values
+    pub tally : Tallying values kept i
 
-  pub file-starts : (values : List ℕ) (row at : ℕ) (before : List ℕ) → at ≤ row → Filing values row at before before at 0
-  file-starts values row at before h = record {
-    small = omega arith;
-    long = refl;
-    count = ap (λ (k : ℕ). at + length (rowsAmong test k values)) (add-zero row);
-    rest = ap (λ (k : ℕ). sets before at (rowsAmong test k values)) (add-zero row);
+  pub spare-starts : (values : List ℕ) → Sparing values 0 0
+  spare-starts values = record { kept = 0; sum = refl; most = omega arith; tally = tally-starts values }
+
+  spare-by : (t : Bool) (n kept i : ℕ) → n + kept ≡ i → pick t n (n + 1) + pick t (kept + 1) kept ≡ i + 1
+  spare-by true n kept i h = omega arith
+  spare-by false n kept i h = omega arith
+
+  pub spare-more : {values : List ℕ} {n i m : ℕ} → Sparing values n i → i < length values → m ≡ pick (test (getD values i 0)) n (n + 1) → Sparing values m (i + 1)
+  spare-more {values} {n} {i} {m} f h e = record {
+    kept = pick (test (getD values i 0)) (f .kept + 1) (f .kept);
+    sum = rw e (spare-by (test (getD values i 0)) n (f .kept) i (f .sum));
+    most = omega arith;
+    tally = tally-more (f .tally) h refl;
   }
 
-  file-long : (t : Bool) (list : List ℕ) (n x : ℕ) → length (pick t (set list n x) list) ≡ length list
-  file-long true list n x = length-set list n x
-  file-long false list n x = refl
+  pub spare-ends : {values : List ℕ} {n i : ℕ} → Sparing values n i → length values ≤ i → (r : ℕ) → length values - n ≡ length (rowsAmong test r values)
+  spare-ends {values} {n} {i} f h r = let k : length values - n ≡ f .kept = omega (arith, f .sum, f .most) in k ∙ tally-ends (f .tally) h r
 
-  file-by : (t : Bool) (list : List ℕ) (n x : ℕ) (l : List ℕ) → sets (pick t (set list n x) list) (pick t (n + 1) n) l ≡ sets list n (pick t (x ∷ l) l)
-  file-by true list n x l = ap (λ (k : ℕ). sets (set list n x) k l) (add-one n)
-  file-by false list n x l = refl
+  -- ---- gathering in a buffer
 
-  pub file-more : {values : List ℕ} {row at : ℕ} {before list after : List ℕ} {n i m : ℕ} → Filing values row at before list n i → i < length values
-      → m ≡ pick (test (getD values i 0)) (n + 1) n → after ≡ pick (test (getD values i 0)) (set list n (row + i)) list
-      → Filing values row at before after m (i + 1)
-  file-more {values} {row} {at} {before} {list} {after} {n} {i} {m} f h e g =
+  -- the first n entries of a buffer are the rows passed so far that pass the test
+  pub record Gathering (values : List ℕ) (row : ℕ) (kept : List ℕ) (n i : ℕ) : Type 0 where
+    pub small : n ≤ i
+    pub most : n ≤ 512
+    pub long : length kept ≡ 512
+    pub rest : take n kept ++ rowsAmong test (row + i) (drop i values) ≡ rowsAmong test row values
+
+  pub gather-starts : (values : List ℕ) (row : ℕ) (kept : List ℕ) → length kept ≡ 512 → Gathering values row kept 0 0
+  gather-starts values row kept long = record { small = omega arith; most = omega arith; long = long; rest = ap (λ (k : ℕ). rowsAmong test k values) (add-zero row) }
+
+  -- a row is put behind those kept, and stays if it passes the test
+  gather-by : (t : Bool) (kept : List ℕ) (n x : ℕ) (l : List ℕ) → n < length kept → take (pick t (n + 1) n) (set kept n x) ++ l ≡ take n kept ++ pick t (x ∷ l) l
+  gather-by true kept n x l h =
+      ap (λ (k : ℕ). take k (set kept n x) ++ l) (add-one n)
+      ∙ ap (λ (k : List ℕ). k ++ l) (take-suc-set kept n x h)
+      ∙ append-assoc (take n kept) (x ∷ []) l
+  gather-by false kept n x l h = ap (λ (k : List ℕ). k ++ l) (take-set-le n kept n x (le-refl n))
+
+  pub gather-more : {values : List ℕ} {row : ℕ} {kept : List ℕ} {n i m : ℕ} → Gathering values row kept n i → i < length values → length values ≤ 512
+      → m ≡ pick (test (getD values i 0)) (n + 1) n → Gathering values row (set kept n (row + i)) m (i + 1)
+  gather-more {values} {row} {kept} {n} {i} {m} f h few e =
       let t = test (getD values i 0) in
       let l = rowsAmong test (row + i + 1) (drop (i + 1) values) in
       record {
-        small = rw (e, ← (behind row i)) (tally-small t n (row + i) (f .small));
-        long = rw g (file-long t list n (row + i)) ∙ f .long;
-        count =
-            ap (λ (k : ℕ). m + length (rowsAmong test k (drop (i + 1) values))) (sym (behind row i))
-            ∙ ap (λ (k : ℕ). k + length l) e ∙ tally-by t n (row + i) l
-            ∙ ap (λ (k : List ℕ). n + length k) (sym (rows-next test (row + i) values i h)) ∙ f .count;
+        small = rw e (tally-small t n i (f .small));
+        most = rw e (omega (arith, tally-small t n i (f .small)));
+        long = simp length-set (f .long);
         rest =
-            ap (λ (k : ℕ). sets after m (rowsAmong test k (drop (i + 1) values))) (sym (behind row i))
-            ∙ rw (e, g) (file-by t list n (row + i) l)
-            ∙ ap (sets list n) (sym (rows-next test (row + i) values i h)) ∙ f .rest;
+            ap (λ (k : ℕ). take m (set kept n (row + i)) ++ rowsAmong test k (drop (i + 1) values)) (sym (behind row i))
+            ∙ ap (λ (k : ℕ). take k (set kept n (row + i)) ++ l) e
+            ∙ gather-by t kept n (row + i) l (omega (arith, f .small, f .long))
+            ∙ ap (λ (k : List ℕ). take n kept ++ k) (sym (rows-next test (row + i) values i h)) ∙ f .rest;
       }
 
-  pub file-ends : {values : List ℕ} {row at : ℕ} {before list : List ℕ} {n i : ℕ} → Filing values row at before list n i → length values ≤ i
-      → (n ≡ at + length (rowsAmong test row values)) × (list ≡ sets before at (rowsAmong test row values))
-  file-ends {values} {row} {at} {before} {list} {n} {i} f h = (
-    sym (add-zero n) ∙ ap (λ (l : List ℕ). n + length l) (sym (rows-none test (row + i) values i h)) ∙ f .count,
-    ap (sets list n) (sym (rows-none test (row + i) values i h)) ∙ f .rest,
-  )
+  pub gather-ends : {values : List ℕ} {row : ℕ} {kept : List ℕ} {n i : ℕ} → Gathering values row kept n i → length values ≤ i → take n kept ≡ rowsAmong test row values
+  gather-ends {values} {row} {kept} {n} {i} f h =
+      sym (append-nil (take n kept)) ∙ ap (λ (l : List ℕ). take n kept ++ l) (sym (rows-none test (row + i) values i h)) ∙ f .rest

@@ -3,16 +3,16 @@ ghost use mathlib.Core.Path.{_≡_};
 ghost use mathlib.Core.Bool.{Bool};
 ghost use mathlib.Core.List.{List};
 ghost use Prim.Native.Nat.{ℕ, _+_, _/_, _%_, _^_, _≤_, _<_};
-ghost use lib.ListN.{length, set};
+ghost use lib.ListN.{length, take, set};
 ghost use lib.Seq.{sets};
 ghost use Rattle.format.specs.Outcome.{Outcome, pick};
 ghost use Rattle.format.specs.Lookup.{lookedUp, within};
 ghost use Rattle.format.specs.Reading.{blockAt, rowAt};
 ghost use Rattle.format.specs.Calls.{FoundAs};
 ghost use Rattle.chunks.specs.Rows.{rowsAmong};
+ghost use Rattle.finding.specs.Counts.{OutsideOf};
 ghost use Rattle.walks.specs.Walks.{Kept.rowsOf, WalkedAs, nextChunk, Going, left, Walking};
 use chunks::cut;
-use chunks::within;
 use format::Block;
 use format::Column;
 use format::Found;
@@ -21,19 +21,23 @@ use format::WindowRow;
 use walks::Walk;
 use walks::Walked;
 
-// One more than `n` if a value lies in the range.
+// One more than `n` if a value lies in the range: if it lies no further above the low end than the high end does, modulo 2^64, which is one comparison and no branch.
 fn tallied(n: usize, low: u64, high: u64, value: u64) -> usize
     requires { ⌜ n + 1 < 2 ^ 64 ⌝ }
     ensures { λ r. ⌜ r ≡ pick (within low high value) (n + 1) n ⌝ }
 {
-    if within(low, high, value) {
+    if high < low {
+        return n;
+    }
+    let span = high - low;
+    if word::sub(value, low) <= span {
         return n + 1;
     }
     n
 }
 
-// How many of some values lie in the range.
-fn count_within(values: &[u64], low: u64, high: u64) -> usize
+// How many of some values lie in the range, one comparison a value.
+fn count_any(values: &[u64], low: u64, high: u64) -> usize
     ensures { λ n. ⌜ ((r : ℕ) → n ≡ length (rowsAmong (within low high) r (now (values .entry)))) ⌝ }
     ensures { λ n. ⌜ n ≤ length (now (values .entry)) ⌝ }
 {
@@ -46,6 +50,45 @@ fn count_within(values: &[u64], low: u64, high: u64) -> usize
     n
 }
 
+// Internal: asks for a range of at most 2^63 values, and a count with room. One more than `n` if a value lies outside the range: the top bit of how far it lies above the low end, or of what is then left of the range.
+fn passed_over(n: usize, low: u64, span: u64, value: u64) -> usize
+    requires { ⌜ (span < 2 ^ 63) × (low + span < 2 ^ 64) × (n + 1 < 2 ^ 64) ⌝ }
+    ensures { λ r. ⌜ r ≡ pick (within low (low + span) value) n (n + 1) ⌝ }
+{
+    let above = word::sub(value, low);
+    let beyond = (above | word::sub(span, above)) >> 63;
+    n + beyond as usize
+}
+
+// Internal: asks for a range of at most 2^63 values. How many of some values lie outside it: no comparison, which the compiler would have to make up out of other operations where it works on two values at once.
+fn count_outside(values: &[u64], low: u64, span: u64) -> usize
+    requires { ⌜ (span < 2 ^ 63) × (low + span < 2 ^ 64) ⌝ }
+    ensures { λ n. ⌜ OutsideOf low (low + span) n (now (values .entry)) ⌝ }
+{
+    let mut n = 0;
+    let mut i = 0;
+    while i < values.len() {
+        n = passed_over(n, low, span, values[i]);
+        i += 1;
+    }
+    n
+}
+
+// How many of some values lie in the range.
+fn count_within(values: &[u64], low: u64, high: u64) -> usize
+    ensures { λ n. ⌜ ((r : ℕ) → n ≡ length (rowsAmong (within low high) r (now (values .entry)))) ⌝ }
+    ensures { λ n. ⌜ n ≤ length (now (values .entry)) ⌝ }
+{
+    if high < low {
+        return count_any(values, low, high);
+    }
+    let span = high - low;
+    if 0x8000_0000_0000_0000 <= span {
+        return count_any(values, low, high);
+    }
+    values.len() - count_outside(values, low, span)
+}
+
 // Stores a row at an entry of a list, if the list has it.
 fn put(list: &mut [u32], at: usize, row: u32)
     ensures { λ _. ⌜ now (list .exit) ≡ set (now (list .entry)) at row ⌝ }
@@ -55,20 +98,59 @@ fn put(list: &mut [u32], at: usize, row: u32)
     }
 }
 
-// Stores a row whose value lies in the range at entry `n`, and returns the entry for the next.
-fn filed(value: u64, low: u64, high: u64, row: u32, found: &mut [u32], n: usize) -> usize
-    requires { ⌜ n + 1 < 2 ^ 64 ⌝ }
-    ensures { λ r. ⌜ r ≡ pick (within low high value) (n + 1) n ⌝ }
-    ensures { λ _. ⌜ now (found .exit) ≡ pick (within low high value) (set (now (found .entry)) n row) (now (found .entry)) ⌝ }
+// Internal: asks for rows below 2^32, 512 of them at most. Puts the rows whose values lie in the range to the front of a buffer, the first value's row being `row`, and returns how many. Each row is put there, and
+// the next one over it if its value lies outside, so that no branch is to be guessed.
+fn gather_rows(values: &[u64], low: u64, high: u64, row: u32, kept: &mut [u32; 512]) -> usize
+    requires { ⌜ (row + length (now values) ≤ 2 ^ 32) × (length (now values) ≤ 512) × (length (now kept) ≡ 512) ⌝ }
+    ensures { λ n. ⌜ (n ≤ 512) × (length (now (kept .exit)) ≡ 512) × (take n (now (kept .exit)) ≡ rowsAmong (within low high) row (now (values .entry))) ⌝ }
 {
-    if !within(low, high, value) {
-        return n;
+    let mut n = 0;
+    let mut i = 0;
+    while i < values.len() {
+        kept[n] = row + i as u32;
+        n = tallied(n, low, high, values[i]);
+        i += 1;
     }
-    put(found, n, row);
-    n + 1
+    n
 }
 
-// Internal: asks for rows below 2^32, and no more entries before `at` than rows before `row`. Stores the rows whose values lie in the range, the first value's row being `row`, from entry `at` on, and returns
+// Internal: asks for entries that can be counted. Stores rows from entry `at` on, one by one, as far as the list has entries.
+fn put_rows(rows: &[u32], found: &mut [u32], at: usize)
+    requires { ⌜ at + length (now rows) < 2 ^ 64 ⌝ }
+    ensures { λ _. ⌜ now (found .exit) ≡ sets (now (found .entry)) at (now (rows .entry)) ⌝ }
+{
+    let mut i = 0;
+    while i < rows.len() {
+        put(found, at + i, rows[i]);
+        i += 1;
+    }
+}
+
+// Internal: asks for room. Copies rows into a list from entry `at` on.
+fn copy_rows(rows: &[u32], found: &mut [u32], at: usize)
+    requires { ⌜ at + length (now rows) ≤ length (now found) ⌝ }
+    ensures { λ _. ⌜ now (found .exit) ≡ sets (now (found .entry)) at (now (rows .entry)) ⌝ }
+{
+    let mut i = 0;
+    while i < rows.len() {
+        found[at + i] = rows[i];
+        i += 1;
+    }
+}
+
+// Internal: asks for entries that can be counted. Stores rows from entry `at` on, as far as the list has entries: one test for all of them, where it has.
+fn file_rows(rows: &[u32], found: &mut [u32], at: usize)
+    requires { ⌜ at + length (now rows) < 2 ^ 64 ⌝ }
+    ensures { λ _. ⌜ now (found .exit) ≡ sets (now (found .entry)) at (now (rows .entry)) ⌝ }
+{
+    if found.len() < at + rows.len() {
+        put_rows(rows, found, at);
+        return;
+    }
+    copy_rows(rows, found, at);
+}
+
+// Internal: asks for rows below 2^32, 512 of them at most, and no more entries before `at` than rows before `row`. Stores the rows whose values lie in the range, the first value's row being `row`, from entry `at` on, and returns
 // the entry behind them.
 fn store_within(
     values: &[u64],
@@ -78,18 +160,15 @@ fn store_within(
     found: &mut [u32],
     at: usize,
 ) -> usize
-    requires { ⌜ (row + length (now values) ≤ 2 ^ 32) × (at ≤ row) ⌝ }
+    requires { ⌜ (row + length (now values) ≤ 2 ^ 32) × (length (now values) ≤ 512) × (at ≤ row) ⌝ }
     ensures { λ n. ⌜ n ≡ at + length (rowsAmong (within low high) row (now (values .entry))) ⌝ }
     ensures { λ _. ⌜ now (found .exit) ≡ sets (now (found .entry)) at (rowsAmong (within low high) row (now (values .entry))) ⌝ }
     ensures { λ n. ⌜ n ≤ row + length (now (values .entry)) ⌝ }
 {
-    let mut n = at;
-    let mut i = 0;
-    while i < values.len() {
-        n = filed(values[i], low, high, row + i as u32, found, n);
-        i += 1;
-    }
-    n
+    let mut kept = [0u32; 512];
+    let n = gather_rows(values, low, high, row, &mut kept);
+    file_rows(&kept[..n], found, at);
+    at + n
 }
 
 // How a lookup of the rows from `first` to `end`, cut to a window's rows, begins; where there are none, it is over.
@@ -109,7 +188,7 @@ pub fn begin(window: Window, first: u32, end: u32) -> Walk
     }
 }
 
-// Internal: asks for rows below 2^32, and no more entries before `at` than rows before `row`. How many of the rows lie in the range, the first value's row being `row`; in a pass that
+// Internal: asks for rows below 2^32, 512 of them at most, and no more entries before `at` than rows before `row`. How many of the rows lie in the range, the first value's row being `row`; in a pass that
 // stores they are stored from entry `at` on.
 fn keep(
     storing: bool,
@@ -120,7 +199,7 @@ fn keep(
     found: &mut [u32],
     at: usize,
 ) -> usize
-    requires { ⌜ (row + length (now values) ≤ 2 ^ 32) × (at ≤ row) ⌝ }
+    requires { ⌜ (row + length (now values) ≤ 2 ^ 32) × (length (now values) ≤ 512) × (at ≤ row) ⌝ }
     ensures { λ n. ⌜ n ≡ length (rowsAmong (within low high) row (now (values .entry))) ⌝ }
     ensures { λ _. ⌜ now (found .exit) ≡ pick storing (sets (now (found .entry)) at (rowsAmong (within low high) row (now (values .entry)))) (now (found .entry)) ⌝ }
 {

@@ -106,6 +106,31 @@ fn line_rows(
     i
 }
 
+// The same rows, for bounds that lie in order. Where they lie fewer than 2^63 apart, the rows are unpacked as a whole and raised by the line as a whole; only where one of them lies outside do they go row by row.
+fn line_run(
+    area: &[u8],
+    line: Line,
+    bits: u8,
+    minimum: u64,
+    maximum: u64,
+    first: u32,
+    out: &mut [u64],
+) -> usize
+    requires { ⌜ (legal bits ≡ true) × (minimum ≤ maximum) ⌝ }
+    requires { ⌜ first + length (now out) ≤ 2 ^ 32 ⌝ }
+    ensures { λ n. ⌜ filledTo n first (now (out .exit)) ≡ readRun (λ (r : ℕ). bounded minimum maximum r (modAdd (lineAt line r) (unpack bits (now (area .entry)) r))) first (length (now (out .entry))) ⌝ }
+{
+    let span = maximum - minimum;
+    if 0x8000_0000_0000_0000 <= span {
+        return line_rows(area, line, bits, minimum, maximum, first, out);
+    }
+    bitpacker::get_run(area, bits, first, out);
+    if raising::raise_by_line(out, line, first as u64, minimum, minimum, span) == 0 {
+        return out.len();
+    }
+    line_rows(area, line, bits, minimum, maximum, first, out)
+}
+
 // Internal: asks for the same, and for rows below 2^32. The values of the rows from `first` on, as many as the list has room for, up to the first that is out of bounds: returns how many.
 pub fn get_range(
     column: Column,
@@ -121,7 +146,7 @@ pub fn get_range(
 {
     let start = column.start;
     let maximum = column.minimum + column.gcd * column.count;
-    line_rows(
+    line_run(
         &bytes[start..],
         line,
         bits,

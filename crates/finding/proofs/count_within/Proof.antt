@@ -1,60 +1,52 @@
--- `finding::count_within` meets its contract, by the invariant `Tallying`.
+-- `finding::count_within` meets its contract: what lies outside the range is counted where the top bits tell it.
 -- Assumes nothing.
-use Prim.Native.Nat.{_-_}
+use Prim.Native.Nat.{ℕ, _+_, _-_, _≤_}
+use mathlib.Core.Path.{_≡_}
+use mathlib.Core.List.{List}
 use native.Mathlib.Omega.{arith}
-use denote.Ref.{now}
 use lib.ListN.{length}
 use Rattle.format.specs.Lookup.{within}
-use Rattle.finding.proofs.Scans.{Tallying, tally-starts, tally-more, tally-ends}
-use Rattle.chunks.proofs.Rows.{rows-few}
+use Rattle.chunks.specs.Rows.{rowsAmong}
+use Rattle.finding.specs.Counts.{OutsideOf}
 use borrow.Author.Needs.{needs}
 use Rattle.finding.proofs.count_within.Statement.{statement}
 use Rattle.finding.proofs.count_within.Tie as tie
 
-abbrev Inv-loop : tie.InvT-loop
-Inv-loop values low high n₀ i₀ n i = Tallying (within low high) values n i
+others-of : (low high n : ℕ) (values : List ℕ) → low ≤ high → OutsideOf low (low + (high - low)) n values → (r : ℕ) → length values - n ≡ length (rowsAmong (within low high) r values)
+others-of low high n values ordered f r =
+    let back : low + (high - low) ≡ high = omega arith in
+    let all = f .others r in
+    rw back at all
 
-abbrev μ-loop : tie.MeasureT-loop
-μ-loop values low high n₀ i₀ n i = length values - i
+count-any-requires : tie.Need-count-any-requires
+count-any-requires c κs = search needs
 
-loop-holds : tie.Need-loop-holds Inv-loop μ-loop
-loop-holds c = tally-starts _ _
+returns : tie.Need-returns
+returns c = search needs
 
-mul-tallied : tie.Need-mul-tallied Inv-loop μ-loop
-mul-tallied c = search needs
+count-any-requires-2 : tie.Need-count-any-requires-2
+count-any-requires-2 c κs = search needs
 
-shared-slice-read-tallied : tie.Need-shared-slice-read-tallied Inv-loop μ-loop
-shared-slice-read-tallied c = search needs
+returns-2 : tie.Need-returns-2
+returns-2 c = search needs
 
-tallied-requires : tie.Need-tallied-requires Inv-loop μ-loop
-tallied-requires c κs = omega (arith, c .before .before .loop .inv .small)
+count-outside-requires : tie.Need-count-outside-requires
+count-outside-requires c κs = search needs
 
-add-i : tie.Need-add-i Inv-loop μ-loop
-add-i c = search needs
+sub-result : tie.Need-sub-result
+sub-result c = search needs
 
-loop-less : tie.Need-loop-less Inv-loop μ-loop
-loop-less c = search needs
-
-loop-again : tie.Need-loop-again Inv-loop μ-loop
-loop-again c = tally-more _ (c .before .before .before .loop .inv) (c .before .before .loop-test .taken) (c .tallied .ensures)
-
-returns : tie.Need-returns Inv-loop μ-loop
-returns c =
-    let rows = tally-ends _ (c .before .loop .inv) (c .loop-test .left) in
-    let a = c .before .before .before .args in
-    (rows, omega (arith, rows 0, rows-few (within (a .low) (a .high)) 0 (now (a .values))))
+returns-3 : tie.Need-returns-3
+returns-3 c = (others-of _ _ _ _ (c .before .before .if1 .left) (c .count-outside .ensures), omega arith)
 
 pub count-within-spec : {M : Type 1} → statement M
 count-within-spec =
     tie.close
     (tie.spec
-    Inv-loop
-    μ-loop
-    loop-holds
-    mul-tallied
-    shared-slice-read-tallied
-    tallied-requires
-    add-i
-    loop-less
-    loop-again
-    returns)
+    count-any-requires
+    returns
+    count-any-requires-2
+    returns-2
+    count-outside-requires
+    sub-result
+    returns-3)

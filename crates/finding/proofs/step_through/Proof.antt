@@ -1,6 +1,7 @@
 -- `finding::step_through` meets its contract: what decoding the chunk found is what reading by the table finds.
 -- Assumes nothing.
-use Prim.Native.Nat.{ℕ, _-_, _^_, _≤_, _<_}
+use Prim.Native.Nat.{ℕ, _+_, _-_, _%_, _^_, _≤_, _<_}
+use native.Mathlib.Nat.{min-le-right}
 use mathlib.Core.Path.{subst}
 use native.Mathlib.Omega.{arith}
 use denote.Ref.{now}
@@ -34,7 +35,7 @@ keep-requires : tie.Need-keep-requires
 keep-requires c κs =
     let v = c .before .before .before .before in
     let s = entry v in
-    (omega (arith, v .values .given, s .pre .3, s .pre .0 .to, s .pre .2, seen s), s .pre .0 .few)
+    (omega (arith, v .values .given, s .pre .3, s .pre .0 .to, s .pre .2, seen s), omega (arith, v .values .given, s .pre .3, min-le-right (s .args .w .end - s .args .w .at) (512 - (s .args .w .base + s .args .w .at) % 512)), s .pre .0 .few)
 
 behind-requires : tie.Need-behind-requires
 behind-requires c κs =

@@ -1,74 +1,72 @@
--- `finding::store_within` meets its contract, by the invariant `Filing`.
+-- `finding::store_within` meets its contract: what was gathered is what is stored.
 -- Assumes nothing.
-use Prim.Native.Nat.{_-_}
+use Prim.Native.Nat.{ℕ, _+_, _^_, _≤_, _<_}
+use mathlib.Core.Path.{sym, ap, _∙_}
+use mathlib.Core.List.{List}
 use native.Mathlib.Omega.{arith}
 use denote.Ref.{now}
-use lib.ListN.{length}
+use lib.ListN.{length, take}
+use lib.Seq.{sets, length-take-le}
 use Rattle.format.specs.Lookup.{within}
-use Rattle.finding.proofs.Scans.{Filing, file-starts, file-more, file-ends}
 use Rattle.chunks.proofs.Rows.{rows-few}
 use borrow.Author.Needs.{needs}
 use Rattle.finding.proofs.store_within.Statement.{statement}
 use Rattle.finding.proofs.store_within.Tie as tie
 
-abbrev Inv-loop : tie.InvT-loop
-Inv-loop values low high row found₀ at n₀ i₀ found n i = Filing (within low high) values row at found₀ found n i
+-- the entry behind rows out of a buffer can be counted
+countable : (at n : ℕ) (kept : List ℕ) → n ≤ length kept → n ≤ 512 → at < 2 ^ 32 → at + length (take n kept) < 2 ^ 64
+countable at n kept h few low = omega (arith, length-take-le n kept h)
 
-abbrev μ-loop : tie.MeasureT-loop
-μ-loop values low high row found₀ at n₀ i₀ found n i = length values - i
+gather-rows-requires : tie.Need-gather-rows-requires
+gather-rows-requires c κs = search needs
 
-loop-holds : tie.Need-loop-holds Inv-loop μ-loop
-loop-holds c = file-starts _ _ _ _ _ (c .before .before .pre .1)
+array-share-prefix-kept : tie.Need-array-share-prefix-kept
+array-share-prefix-kept c = omega (arith, c .gather-rows .ensures .0, c .gather-rows .ensures .1)
 
-mul-filed : tie.Need-mul-filed Inv-loop μ-loop
-mul-filed c = search needs
+slice-aggregate-file-rows : tie.Need-slice-aggregate-file-rows
+slice-aggregate-file-rows c =
+    let g = c .before .gather-rows .ensures in
+    sym (length-take-le _ _ (omega (arith, g .0, g .1)))
 
-shared-slice-read-filed : tie.Need-shared-slice-read-filed Inv-loop μ-loop
-shared-slice-read-filed c = search needs
+file-rows-requires : tie.Need-file-rows-requires
+file-rows-requires c κs =
+    let k = c .before .before in
+    let g = k .gather-rows .ensures in
+    let s = k .before .before .before .before in
+    countable _ _ _ (omega (arith, g .0, g .1)) (g .0) (omega (arith, s .pre .2))
 
-cast-filed : tie.Need-cast-filed Inv-loop μ-loop
-cast-filed c = search needs
-
-add-filed : tie.Need-add-filed Inv-loop μ-loop
-add-filed c = search needs
-
-filed-requires : tie.Need-filed-requires Inv-loop μ-loop
-filed-requires c κs = omega (arith, c .before .before .before .loop .inv .small, c .before .before .before .before .before .before .pre .0)
-
-add-i : tie.Need-add-i Inv-loop μ-loop
-add-i c = search needs
-
-loop-less : tie.Need-loop-less Inv-loop μ-loop
-loop-less c = search needs
-
-loop-again : tie.Need-loop-again Inv-loop μ-loop
-loop-again c =
+add-result : tie.Need-add-result
+add-result c =
     let k = c .before .before .before .before .before in
-    file-more _ (k .before .loop .inv) (k .loop-test .taken) (c .before .before .filed .ensures .0) (c .before .before .filed .ensures .1)
+    let s = k .before .before .before .before in
+    omega (arith, k .gather-rows .ensures .0, s .pre .2)
 
-same-length : tie.Need-same-length Inv-loop μ-loop
-same-length c = c .before .loop .inv .long
+same-length : tie.Need-same-length
+same-length c = search needs
 
-returns : tie.Need-returns Inv-loop μ-loop
+returns : tie.Need-returns
 returns c =
-    let rows = file-ends _ (c .before .loop .inv) (c .loop-test .left) in
-    let s = c .before .before .before .before in
-    (rows .0, (rows .1, omega (arith, rows .0, s .pre .1, rows-few (within (s .args .low) (s .args .high)) (s .args .row) (now (s .args .values)))))
+    let w = c .before .before in
+    let k = w .before .before .before in
+    let g = k .gather-rows .ensures in
+    let s = k .before .before .before .before in
+    let a = s .args in
+    let many = sym (length-take-le (k .gather-rows .result) _ (omega (arith, g .0, g .1))) ∙ ap length (g .2) in (
+      ap (λ (n : ℕ). a .at + n) many,
+      (
+        w .file-rows .ensures ∙ ap (sets (now (a .found)) (a .at)) (g .2),
+        omega (arith, many, s .pre .2, rows-few (within (a .low) (a .high)) (a .row) (now (a .values))),
+      ),
+    )
 
 pub store-within-spec : {M : Type 1} → statement M
 store-within-spec =
     tie.close
     (tie.spec
-    Inv-loop
-    μ-loop
-    loop-holds
-    mul-filed
-    shared-slice-read-filed
-    cast-filed
-    add-filed
-    filed-requires
-    add-i
-    loop-less
-    loop-again
+    gather-rows-requires
+    array-share-prefix-kept
+    slice-aggregate-file-rows
+    file-rows-requires
+    add-result
     same-length
     returns)

@@ -1,21 +1,34 @@
--- `finding::tallied` meets its contract.
+-- `finding::tallied` meets its contract: its comparison is the range's.
 -- Assumes nothing.
-use mathlib.Core.Path.{sym, _∙_}
+use Prim.Native.Nat.{_-_, _≤_}
+use native.Mathlib.Omega.{arith}
+use Rattle.format.specs.Word.{modSub}
+use Rattle.finding.proofs.Ranges.{turned, near, far}
 use borrow.Author.Needs.{needs}
 use Rattle.finding.proofs.tallied.Statement.{statement}
 use Rattle.finding.proofs.tallied.Tie as tie
 
-within-requires : tie.Need-within-requires
-within-requires c κs = search needs
+returns : tie.Need-returns
+returns c = rw (turned _ _ _ (c .if1 .taken))
+
+sub-requires : tie.Need-sub-requires
+sub-requires c κs = search needs
 
 add-result : tie.Need-add-result
 add-result c = search needs
 
-returns : tie.Need-returns
-returns c = rw (sym (c .before .within .ensures) ∙ c .if1 .taken)
-
 returns-2 : tie.Need-returns-2
-returns-2 c = rw (sym (c .before .within .ensures) ∙ c .if1 .left)
+returns-2 c =
+    let s = c .before .before .before in
+    let a = s .args in
+    rw (near (a .low) (a .high) (a .value) (omega arith) (omega arith) (omega arith) (omega (arith, c .if2 .taken, c .before .sub .ensures)))
+
+returns-3 : tie.Need-returns-3
+returns-3 c =
+    let s = c .before .before .before in
+    let a = s .args in
+    rw (far (a .low) (a .high) (a .value) (omega arith) (omega arith) (omega arith) (omega (arith, c .if2 .left, c .before .sub .ensures)))
 
 pub tallied-spec : {M : Type 1} → statement M
-tallied-spec = tie.close (tie.spec within-requires add-result returns returns-2)
+tallied-spec =
+    tie.close (tie.spec returns sub-requires add-result returns-2 returns-3)

@@ -1,8 +1,8 @@
--- `runs::step` meets its contract: the buffer's front is as long as the chunk.
+-- `runs::step` meets its contract: a pass that looks leaves the list, and one that stores has more than a chunk, or one.
 -- Assumes nothing.
-use mathlib.Core.Path.{refl, sym, _∙_}
+use mathlib.Core.Path.{refl}
 use native.Mathlib.Omega.{arith}
-use Rattle.format.proofs.Lists.{front-length}
+use borrow.Author.Tests.{not-true, not-false}
 use borrow.Author.Needs.{needs}
 use Rattle.runs.proofs.step.Statement.{statement}
 use Rattle.runs.proofs.step.Tie as tie
@@ -10,31 +10,49 @@ use Rattle.runs.proofs.step.Tie as tie
 chunk-of-requires : tie.Need-chunk-of-requires
 chunk-of-requires c κs = search needs
 
-array-borrow-prefix-buffer : tie.Need-array-borrow-prefix-buffer
-array-borrow-prefix-buffer c = search needs
-
-slice-aggregate-step-through : tie.Need-slice-aggregate-step-through
-slice-aggregate-step-through c = sym (front-length _ _ refl (omega (arith, c .before .chunk-of .ensures)))
-
-step-through-requires : tie.Need-step-through-requires
-step-through-requires c κs =
+step-looking-requires : tie.Need-step-looking-requires
+step-looking-requires c κs =
     let k = c .before .before in
     let s = k .before .before .before in
-    (s .pre .0, s .pre .1, s .pre .2, front-length _ _ refl (omega (arith, k .chunk-of .ensures)) ∙ k .chunk-of .ensures, s .pre .3, s .pre .4)
+    (s .pre .0, s .pre .1, s .pre .2, k .chunk-of .ensures, not-true (s .args .w .storing) (c .if1 .taken))
+
+returns : tie.Need-returns
+returns c =
+    (λ table before o number block f. c .step-looking .ensures .0 table before _ o number block refl f, c .step-looking .ensures .1)
+
+step-straight-requires : tie.Need-step-straight-requires
+step-straight-requires c κs =
+    let t = c .before in
+    let e = t .before in
+    let k = e .before .before in
+    let s = k .before .before .before in
+    (s .pre .0, s .pre .1, s .pre .2, k .chunk-of .ensures, s .pre .3, s .pre .4, not-false (s .args .w .storing) (e .if1 .left), omega (arith, t .if2 .taken, s .pre .3))
 
 same-length : tie.Need-same-length
 same-length c = search needs
 
-returns : tie.Need-returns
-returns c = search needs
+returns-2 : tie.Need-returns-2
+returns-2 c = search needs
+
+step-buffered-requires : tie.Need-step-buffered-requires
+step-buffered-requires c κs = search needs
+
+same-length-2 : tie.Need-same-length-2
+same-length-2 c = search needs
+
+returns-3 : tie.Need-returns-3
+returns-3 c = search needs
 
 pub step-spec : {M : Type 1} → statement M
 step-spec =
     tie.close
     (tie.spec
     chunk-of-requires
-    array-borrow-prefix-buffer
-    slice-aggregate-step-through
-    step-through-requires
+    step-looking-requires
+    returns
+    step-straight-requires
     same-length
-    returns)
+    returns-2
+    step-buffered-requires
+    same-length-2
+    returns-3)

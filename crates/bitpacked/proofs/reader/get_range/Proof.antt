@@ -1,11 +1,12 @@
 -- `bitpacked::reader::get_range` meets its contract: the part from the area's start on holds each row's number, at the width of the count.
 -- Assumes nothing.
 use mathlib.Core.Path.{ap, _∙_}
+use native.Mathlib.Omega.{arith}
 use denote.Ref.{now}
 use Rattle.format.specs.Packing.{legal}
 use Rattle.format.proofs.Runs.{run-agree}
 use Rattle.format.proofs.Widths.{width-legal}
-use Rattle.bitpacked.proofs.Rows.{row-is}
+use Rattle.bitpacked.proofs.Rows.{row-is, narrow-count}
 use borrow.Author.Needs.{needs}
 use Rattle.bitpacked.proofs.reader.get_range.Statement.{statement}
 use Rattle.bitpacked.proofs.reader.get_range.Tie as tie
@@ -13,20 +14,20 @@ use Rattle.bitpacked.proofs.reader.get_range.Tie as tie
 compute-num-bits-requires : tie.Need-compute-num-bits-requires
 compute-num-bits-requires c κs = search needs
 
-sub-scale-rows : tie.Need-sub-scale-rows
-sub-scale-rows c = search needs
+sub-scale-run : tie.Need-sub-scale-run
+sub-scale-run c = search needs
 
-part-scale-rows-start : tie.Need-part-scale-rows-start
-part-scale-rows-start c = search needs
+part-scale-run-start : tie.Need-part-scale-run-start
+part-scale-run-start c = search needs
 
-part-scale-rows-end : tie.Need-part-scale-rows-end
-part-scale-rows-end c = search needs
+part-scale-run-end : tie.Need-part-scale-run-end
+part-scale-run-end c = search needs
 
-scale-rows-requires : tie.Need-scale-rows-requires
-scale-rows-requires c κs =
+scale-run-requires : tie.Need-scale-run-requires
+scale-run-requires c κs =
     let k = c .before .before in
     let s = k .before .before .before in
-    (ap legal (k .compute-num-bits .ensures) ∙ width-legal _, (s .pre .0 .bounds, s .pre .1))
+    (ap legal (k .compute-num-bits .ensures) ∙ width-legal _, ((s .pre .0 .bounds, narrow-count _ _ (omega arith) (k .compute-num-bits .ensures)), s .pre .1))
 
 same-length : tie.Need-same-length
 same-length c = search needs
@@ -36,7 +37,7 @@ returns c block =
     let k = c .before .before in
     let w = k .before .before .before in
     let s = w .before .before .before in
-    k .scale-rows .ensures
+    k .scale-run .ensures
     ∙ run-agree _ _ _ _ (λ r low high. row-is (s .args .column) block (now (s .args .bytes)) r (s .pre .0 .codec) (w .compute-num-bits .ensures))
 
 pub get-range-spec : {M : Type 1} → statement M
@@ -44,9 +45,9 @@ get-range-spec =
     tie.close
     (tie.spec
     compute-num-bits-requires
-    sub-scale-rows
-    part-scale-rows-start
-    part-scale-rows-end
-    scale-rows-requires
+    sub-scale-run
+    part-scale-run-start
+    part-scale-run-end
+    scale-run-requires
     same-length
     returns)

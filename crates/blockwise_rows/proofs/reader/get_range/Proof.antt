@@ -16,26 +16,26 @@ numbers-start-requires c κs =
     let s = c .before .before in
     ⊎-elim (λ none. inl none) (λ inside. inr (omega (arith, inside))) (s .pre .0 .start)
 
-sub-line-rows : tie.Need-sub-line-rows
-sub-line-rows c =
+sub-line-run : tie.Need-sub-line-run
+sub-line-run c =
     let s = c .before .before .before in
     omega (arith, c .numbers-start .ensures, start-inside (s .args .column) (s .args .block) (now (s .args .bytes)) (s .pre .0))
 
-part-line-rows-start : tie.Need-part-line-rows-start
-part-line-rows-start c =
+part-line-run-start : tie.Need-part-line-run-start
+part-line-run-start c =
     let s = c .before .before .before in
     omega (arith, c .numbers-start .ensures, start-inside (s .args .column) (s .args .block) (now (s .args .bytes)) (s .pre .0))
 
-part-line-rows-end : tie.Need-part-line-rows-end
-part-line-rows-end c = search needs
+part-line-run-end : tie.Need-part-line-run-end
+part-line-run-end c = search needs
 
-cast-line-rows : tie.Need-cast-line-rows
-cast-line-rows c =
+cast-line-run : tie.Need-cast-line-run
+cast-line-run c =
     let s = c .before .before .before .before .before in
     record { fits = omega (arith, legal-most (s .args .block .bits) (s .pre .0 .lawful)) }
 
-line-rows-requires : tie.Need-line-rows-requires
-line-rows-requires c κs = search needs
+line-run-requires : tie.Need-line-run-requires
+line-run-requires c κs = search needs
 
 same-length : tie.Need-same-length
 same-length c = search needs
@@ -45,7 +45,7 @@ returns c =
     let k = c .before .before in
     let n = k .before .before .before .before in
     let s = n .before .before .before in
-    k .line-rows .ensures
+    k .line-run .ensures
     ∙ run-agree _ _ _ _ (λ r low high. row-is (s .args .column) (s .args .block) (now (s .args .bytes)) r (s .pre .0 .codec) (n .numbers-start .ensures))
 
 pub get-range-spec : {M : Type 1} → statement M
@@ -53,10 +53,10 @@ get-range-spec =
     tie.close
     (tie.spec
     numbers-start-requires
-    sub-line-rows
-    part-line-rows-start
-    part-line-rows-end
-    cast-line-rows
-    line-rows-requires
+    sub-line-run
+    part-line-run-start
+    part-line-run-end
+    cast-line-run
+    line-run-requires
     same-length
     returns)

@@ -14,17 +14,17 @@ mul-maximum c = search needs
 add-maximum : tie.Need-add-maximum
 add-maximum c = search needs
 
-sub-line-rows : tie.Need-sub-line-rows
-sub-line-rows c = search needs
+sub-line-run : tie.Need-sub-line-run
+sub-line-run c = search needs
 
-part-line-rows-start : tie.Need-part-line-rows-start
-part-line-rows-start c = search needs
+part-line-run-start : tie.Need-part-line-run-start
+part-line-run-start c = search needs
 
-part-line-rows-end : tie.Need-part-line-rows-end
-part-line-rows-end c = search needs
+part-line-run-end : tie.Need-part-line-run-end
+part-line-run-end c = search needs
 
-line-rows-requires : tie.Need-line-rows-requires
-line-rows-requires c κs = search needs
+line-run-requires : tie.Need-line-run-requires
+line-run-requires c κs = search needs
 
 same-length : tie.Need-same-length
 same-length c = search needs
@@ -33,7 +33,7 @@ returns : tie.Need-returns
 returns c block =
     let k = c .before .before in
     let s = k .before .before .before .before .before .before .before in
-    k .line-rows .ensures
+    k .line-run .ensures
     ∙ run-agree _ _ _ _ (λ r low high. row-is (s .args .column) block (now (s .args .bytes)) (s .args .line) (s .args .bits) r (s .pre .0 .codec))
 
 pub get-range-spec : {M : Type 1} → statement M
@@ -42,9 +42,9 @@ get-range-spec =
     (tie.spec
     mul-maximum
     add-maximum
-    sub-line-rows
-    part-line-rows-start
-    part-line-rows-end
-    line-rows-requires
+    sub-line-run
+    part-line-run-start
+    part-line-run-end
+    line-run-requires
     same-length
     returns)

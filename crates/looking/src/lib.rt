@@ -1,0 +1,147 @@
+// Looking at a chunk whose values are not asked for: where no number of a row's width can bring a value out of bounds, the bits are not read at all.
+ghost use mathlib.Core.Path.{_≡_};
+ghost use mathlib.Core.Bool.{true};
+ghost use Prim.Native.Nat.{_+_, _-_, _*_, _/_, _%_, _^_, _≤_, _<_};
+ghost use Rattle.format.specs.Packing.{width};
+ghost use Rattle.format.specs.Reading.{rowIn};
+ghost use Rattle.format.specs.Runs.{readRun};
+ghost use Rattle.reading.specs.declared.reader.Decoded.the-variants.{Whole};
+ghost use Rattle.reading.specs.Chunks.{Chunk};
+ghost use Rattle.looking.specs.Looks.{LookedAs, Sure, Near};
+use format::Block;
+use format::Codec;
+use format::Column;
+use format::ColumnRow;
+use format::Line;
+use format::RowRead;
+use format::WindowRow;
+use reading::reader::Decoded;
+
+// Internal: asks for at most 56 bits. Two to the power of so many.
+fn power(bits: u64) -> u64
+    requires { ⌜ bits ≤ 56 ⌝ }
+    ensures { λ r. ⌜ (r ≡ 2 ^ bits) × (r ≤ 2 ^ 56) ⌝ }
+{
+    1 << bits
+}
+
+// Whether a count is the greatest number of its width.
+fn is_full(count: u64) -> bool
+    ensures { λ r. ⌜ (r ≡ true → 2 ^ width count ≤ count + 1) ⌝ }
+{
+    let bits = word::wide(bitpacker::compute_num_bits(count));
+    if 56 < bits {
+        return false;
+    }
+    power(bits) - 1 <= count
+}
+
+// Internal: asks for a place below 2^32. Whether a line of this slope rises, and by a product below 2^63 up to that place.
+fn is_rising(slope: u64, to: u64) -> bool
+    requires { ⌜ to < 2 ^ 32 ⌝ }
+    ensures { λ r. ⌜ (r ≡ true → to * slope < 2 ^ 63) ⌝ }
+{
+    slope <= 0x7fff_ffff_ffff_ffff / (to + 1)
+}
+
+// Internal: asks for a product below 2^63. How far a line of this slope rises from place 0 to a place.
+fn climb(place: u64, slope: u64) -> u64
+    requires { ⌜ place * slope < 2 ^ 63 ⌝ }
+    ensures { λ r. ⌜ (r ≡ place * slope / 2 ^ 32) × (r < 2 ^ 31) ⌝ }
+{
+    place * slope / 0x1_0000_0000
+}
+
+// Internal: asks for places in order, below 2^32. Whether a line that rises, with any number of so many bits, lies from one place to another no more than `span` above `low`; of a line that falls this is not told.
+fn is_near(line: Line, bits: u64, from: u64, to: u64, low: u64, span: u64) -> bool
+    requires { ⌜ (from ≤ to) × (to < 2 ^ 32) ⌝ }
+    ensures { λ r. ⌜ (r ≡ true → Near line bits from to low span) ⌝ }
+{
+    let slope = line.slope;
+    if 56 < bits {
+        return false;
+    }
+    if !is_rising(slope, to) {
+        return false;
+    }
+    let start = word::sub(line::eval(line, from), low);
+    if 0x4000_0000_0000_0000 <= start {
+        return false;
+    }
+    start + (climb(to, slope) - climb(from, slope)) + power(bits) <= span
+}
+
+// Internal: asks for rows of a column, in one block, whose maximum has 64 bits. Whether each of the rows has a value, whatever its bits are, by the codec.
+fn is_sure(column: Column, block: Block, first: u32, size: u32) -> bool
+    requires { ⌜ (column .minimum + column .count * column .gcd < 2 ^ 64) × (0 < size) × (first + size ≤ 2 ^ 32) × (first % 512 + size ≤ 512) ⌝ }
+    ensures { λ r. ⌜ (r ≡ true → Sure column block first size) ⌝ }
+{
+    let codec = column.codec;
+    match codec {
+        Codec::Bitpacked => is_full(column.count),
+        Codec::Linear(line, bits) => is_near(
+            line,
+            word::wide(bits),
+            first as u64,
+            (first + (size - 1)) as u64,
+            column.minimum,
+            column.gcd * column.count,
+        ),
+        Codec::Blockwise => is_near(
+            block.line,
+            block.bits,
+            (first % 512) as u64,
+            (first % 512 + (size - 1)) as u64,
+            0,
+            column.count,
+        ),
+    }
+}
+
+// Internal: asks for a chunk. Whether all of its rows have values, as far as that is told by its last row and the column alone.
+fn is_whole(
+    column: Column,
+    blocks: usize,
+    block: Block,
+    bytes: &[u8],
+    first: u32,
+    size: u32,
+) -> bool
+    requires { ⌜ Chunk (column .window .rows) (column .window .first) first size ⌝ }
+    ensures { λ r. ⌜ (r ≡ true → LookedAs (readRun (rowIn column blocks block (now (bytes .entry))) first size) size Whole) ⌝ }
+{
+    let last = WindowRow(first + (size - 1));
+    match reading::reader::row_in(column, blocks, block, bytes, last) {
+        RowRead::Value(_) => {
+            let at = reading::reader::column_row(column.window.first, WindowRow(first));
+            is_sure(column, block, at.0, size)
+        }
+        RowRead::Refused(_) => false,
+    }
+}
+
+// Internal: asks for a chunk. What decoding it would find.
+pub fn look(
+    column: Column,
+    blocks: usize,
+    block: Block,
+    bytes: &[u8],
+    first: u32,
+    size: usize,
+) -> Decoded
+    requires { ⌜ Chunk (column .window .rows) (column .window .first) first size ⌝ }
+    ensures { λ r. ⌜ LookedAs (readRun (rowIn column blocks block (now (bytes .entry))) first size) size r ⌝ }
+{
+    if is_whole(column, blocks, block, bytes, first, size as u32) {
+        return Decoded::Whole;
+    }
+    let mut buffer = [0u64; 512];
+    reading::reader::decode(
+        column,
+        blocks,
+        block,
+        bytes,
+        WindowRow(first),
+        &mut buffer[..size],
+    )
+}
