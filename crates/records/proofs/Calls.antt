@@ -183,16 +183,18 @@ pub record Accepted (vs cs bytes : List ℕ) : Type 0 where
       → (a ≡ NotWritten (OutputShort (length bytes))) × (after ≡ out)
 
 pub calls-accept : (vs cs : List ℕ) (j : ℕ) → length vs < 2 ^ 32 → AllBelow 3 cs → j < length cs → Applies (getD cs j 0) vs → (bytes : List ℕ) × Accepted vs cs bytes
-calls-accept vs cs j few known h applies =
-    (w .bytes, record {
-      most = reserved vs cs (w .bytes) (length (w .bytes)) (w .there (length (w .bytes)) (omega arith));
-      there = λ out after a room wrote.
-          let r : SerializedAs (value (w .bytes)) a out after = subst (λ (x : Outcome (List ℕ)). SerializedAs x a out after) (w .there (length out) room) wrote in
-          (written-injective a (Length (length (w .bytes))) (r .answer), r .list ∙ sets-eq (w .bytes) out 0 (omega arith) ∙ ap (λ (n : ℕ). w .bytes ++ drop n out) (zero-add (length (w .bytes))));
-      short = λ out after a less wrote.
-          let r : SerializedAs (refusal 4 (length (w .bytes) ∷ [])) a out after = subst (λ (x : Outcome (List ℕ)). SerializedAs x a out after) (w .short (length out) less) wrote in
-          (written-injective a (NotWritten (OutputShort (length (w .bytes)))) (r .answer), r .list);
-    })
+calls-accept vs cs j few known h applies = (
+  w .bytes,
+  record {
+    most = reserved vs cs (w .bytes) (length (w .bytes)) (w .there (length (w .bytes)) (omega arith));
+    there = λ out after a room wrote.
+        let r : SerializedAs (value (w .bytes)) a out after = subst (λ (x : Outcome (List ℕ)). SerializedAs x a out after) (w .there (length out) room) wrote in
+        (written-injective a (Length (length (w .bytes))) (r .answer), r .list ∙ sets-eq (w .bytes) out 0 (omega arith) ∙ ap (λ (n : ℕ). w .bytes ++ drop n out) (zero-add (length (w .bytes))));
+    short = λ out after a less wrote.
+        let r : SerializedAs (refusal 4 (length (w .bytes) ∷ [])) a out after = subst (λ (x : Outcome (List ℕ)). SerializedAs x a out after) (w .short (length out) less) wrote in
+        (written-injective a (NotWritten (OutputShort (length (w .bytes)))) (r .answer), r .list);
+  },
+)
   where
     w : Writes vs cs
     w = never-needless vs cs j few (λ i l. omega (arith, known i l)) h applies
