@@ -4,15 +4,15 @@
 --     SpareAlike, same-fields       so the two columns have the same fields, if the bytes left over in the footer agree
 --     Listed, listed-blames         and every row of theirs answers as the theorem says, with any tables that have a program's room
 -- Assumes nothing.
-use Prim.Native.Nat.{ℕ, zero, suc, _+_, _-_, _≤_, _<_, min}
+use Prim.Native.Nat.{ℕ, zero, suc, _+_, _-_, _≤_, _<_}
 use mathlib.Core.Path.{_≡_, refl, sym, ap, _∙_, subst}
-use mathlib.Core.Bool.{Bool, true, false, _&&_}
+use mathlib.Core.Bool.{Bool, true, false}
 use mathlib.Core.Logic.{_⊎_, inl, inr, ⊎-elim}
 use mathlib.Core.Option.{some}
 use mathlib.Core.List.{List, [], _∷_, _++_, append-nil}
 use native.Mathlib.Nat.{eq-or-lt-of-le}
 use native.Mathlib.Omega.{arith}
-use lib.Dec.{ltb, leb, eqb}
+use lib.Dec.{eqb}
 use lib.ListN.{length, getD, List·getD-eq-default}
 use borrow.Author.Tests.{lt-ltb, le-ltb, le-leb, eqb-true}
 use Rattle.format.specs.declared.Block.{Block}
@@ -38,7 +38,7 @@ use Rattle.bytewise.specs.declared.fields.Field.{Field}
 use Rattle.bytewise.specs.declared.fields.Field.the-variants.{At, Nothing}
 use Rattle.bytewise.specs.Fields.{isField, fieldOr, firstField}
 use Rattle.blame_lines.specs.Bytes.{lengthsLine}
-use Rattle.blaming.specs.Beginning.{Start, Start.both, Start.only, startsWith, starts}
+use Rattle.blaming.specs.Beginning.{Start.both, Start.only, startsWith, starts}
 
 -- ---- where no field is told
 

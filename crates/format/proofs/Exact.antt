@@ -4,7 +4,7 @@
 --     exactly-written         the theorem
 -- Assumes nothing.
 use Prim.Native.Nat.{ℕ, zero, suc, _+_, _^_, _≤_, _<_}
-use mathlib.Core.Path.{_≡_, refl, sym, ap, _∙_, subst}
+use mathlib.Core.Path.{_≡_, sym, ap, _∙_, subst}
 use mathlib.Core.List.{List, [], _∷_}
 use native.Mathlib.Nat.{zero-add}
 use native.Mathlib.Omega.{arith}
@@ -13,8 +13,8 @@ use lib.ListN.{length, getD}
 use borrow.Author.Tests.{le-leb}
 use Rattle.format.specs.Outcome.{Outcome, Outcome.value, Outcome.refusal, _>>=_}
 use Rattle.format.specs.Word.{AllBelow}
-use Rattle.format.specs.Bodies.{blockCount, columnBy}
-use Rattle.format.specs.Writing.{Sized, written}
+use Rattle.format.specs.Bodies.{columnBy}
+use Rattle.format.specs.Writing.{written}
 use Rattle.format.specs.Opening.{Loaded, opened}
 use Rattle.format.specs.Reading.{rowAt}
 use Rattle.format.specs.Runs.{readRun, decoded}
@@ -25,7 +25,7 @@ use Rattle.format.proofs.Lists.{all-none, all-cons}
 use Rattle.format.proofs.Outcomes.{not-value, value-same, by-step, by-demand}
 use Rattle.format.proofs.Runs.{run-of}
 use Rattle.format.proofs.TypedLookups.{Words, row-words}
-use Rattle.format.proofs.Writes.{AllKnown, Chosen, Verdict, Verdict.many, Verdict.unknown, Verdict.nothing, Verdict.writes, verdict, said, written-said}
+use Rattle.format.proofs.Writes.{Chosen, Verdict, Verdict.many, Verdict.unknown, Verdict.nothing, Verdict.writes, verdict, said, written-said}
 use Rattle.format.proofs.Checks.{Matches, passed-matches, written-passed}
 
 -- ---- what reads

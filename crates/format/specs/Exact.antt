@@ -7,7 +7,7 @@ use lib.ListN.{length}
 use Rattle.format.specs.Outcome.{Outcome, Outcome.value, _>>=_}
 use Rattle.format.specs.Word.{AllBelow}
 use Rattle.format.specs.Writing.{written}
-use Rattle.format.specs.Opening.{Loaded, opened}
+use Rattle.format.specs.Opening.{opened}
 use Rattle.format.specs.Reading.{rowAt}
 use Rattle.format.specs.Runs.{decoded}
 use Rattle.format.specs.Demands.{Applies}

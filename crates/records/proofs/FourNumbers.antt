@@ -9,10 +9,10 @@
 --     held-exactly, numbers-kept              where the flat list is just four numbers a record, it is the table's numbers, before and afterwards
 -- Assumes nothing.
 use Prim.Native.Nat.{ℕ, zero, suc, _+_, _-_, _*_, _/_, _≤_, _<_, min, suc-le-suc}
-use mathlib.Core.Path.{_≡_, refl, sym, ap, _∙_, subst}
+use mathlib.Core.Path.{_≡_, refl, sym, ap, _∙_}
 use mathlib.Core.Bool.{Bool, true, false, _&&_}
 use mathlib.Core.Logic.{⊎-elim}
-use mathlib.Core.List.{List, [], _∷_, _++_}
+use mathlib.Core.List.{List, [], _∷_}
 use native.Mathlib.Nat.{add-zero, zero-add, add-suc, suc-add, le-of-suc-le-suc, not-suc-le-zero, zero-lt-suc}
 use native.Mathlib.Omega.{arith}
 use lib.Dec.{leb, ltb}
@@ -35,7 +35,7 @@ use Rattle.format.specs.Refusals.{openedMeaning, rowMeaning}
 use Rattle.format.specs.Stats.{readHead}
 use Rattle.format.specs.Bodies.{blockCount}
 use Rattle.format.specs.Opening.{Loaded, Table, columnOf, readFields, blockBefore, readBlocks, openBitpacked, openLinear, openBlockwise, openBody, opened, columnIn, tableIn}
-use Rattle.format.specs.Reading.{noBlock, columnRow, blockAt, hasBlock, columnFits, rowFits, fits, placeIn, packedOf, valueIn, rowIn, rowAt}
+use Rattle.format.specs.Reading.{noBlock, columnRow, blockAt, columnFits, rowFits, fits, placeIn, packedOf, valueIn, rowIn, rowAt}
 use Rattle.format.specs.Calls.{OpenedAs}
 use Rattle.format.proofs.Lists.{below-or}
 use Rattle.format.proofs.Openings.{bitpackedOf, linearOf, blockwiseOf}
