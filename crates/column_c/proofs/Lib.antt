@@ -1,3 +1,4 @@
 pub mod Joining
 pub mod Ranges
 pub mod Types
+pub mod Determined

@@ -58,6 +58,7 @@ pub mod WrittenBytes
 pub mod Demand2
 pub mod Demand3
 pub mod Checks
+pub mod Exact
 pub mod TypedDemands
 pub mod Blame
 pub mod Example

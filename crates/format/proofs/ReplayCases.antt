@@ -6,7 +6,10 @@ use mathlib.Core.Bool.{true, false}
 use mathlib.Core.Option.{none, some}
 use mathlib.Core.List.{List, [], _∷_, _++_, map}
 use Rattle.format.specs.Outcome.{Outcome, Outcome.value, Outcome.refusal}
-use Rattle.format.specs.Packing.{bytesNum, numBytes}
+use Rattle.format.specs.declared.Codec.the-variants.{Bitpacked}
+use Rattle.format.specs.declared.Column.{Column}
+use Rattle.format.specs.Packing.{bytesNum, numBytes, unpack, rowsBits, bitsOf, numOf, width, bitLength, bitsIn}
+use Rattle.format.specs.Reading.{rowAt, rowIn, placeIn, columnFits, rowFits, fits, packedOf, valueIn}
 use Rattle.format.specs.Lookup.{allRead, rowsPassing}
 use Rattle.format.specs.Demands.{readsAs}
 use Rattle.format.specs.Replaying.{numberAt, headerOf, recordAt, listedAt, listedFrom, placed, isRecording, sameRows, foundAre, agrees, firstDiffering, Report, replayed}
@@ -46,3 +49,20 @@ pub replays : map over (
     ∷ value (record { differing = some 1; run = 2 }) ∷ refusal 19 [] ∷ []
 unfolding zeros numBytes bytesNum numberAt headerOf recordAt listedAt listedFrom placed isRecording sameRows foundAre agrees firstDiffering allRead rowsPassing replayed
 replays = refl
+
+-- rows 1 and 2 of the Bitpacked column of 10, 30, 20, as a window: its rows are 0 and 1
+abbrev pub windowed : Column
+windowed = record { minimum = 10; gcd = 10; count = 2; rows = 3; start = 5; size = 1; window = record { first = 1; rows = 2 }; codec = Bitpacked }
+
+abbrev pub through : List ℕ → Outcome Report
+through s = replayed (rowAt windowed [] (0 ∷ 138 ∷ 138 ∷ 130 ∷ 131 ∷ 24 ∷ [])) 2 s
+
+-- through it the lookup 10 to 25 finds its row 1: recorded so; with the column's row; with an end that the column has and the window has not, for 30, its row 0; and a recording cut short
+pub window-replays : map through (
+    (header 1 16 1 48 ++ (item 10 25 0 9 0 1 ++ numBytes 4 1))
+    ∷ (header 1 16 1 48 ++ (item 10 25 0 9 0 1 ++ numBytes 4 2))
+    ∷ (header 1 16 1 48 ++ (item 30 30 0 3 0 1 ++ numBytes 4 0))
+    ∷ zeros 15 ∷ [])
+    ≡ value (record { differing = none; run = 1 }) ∷ value (record { differing = some 0; run = 1 }) ∷ value (record { differing = none; run = 1 }) ∷ refusal 19 [] ∷ []
+unfolding zeros numBytes bytesNum numberAt headerOf recordAt listedAt listedFrom placed isRecording sameRows foundAre agrees firstDiffering allRead rowsPassing replayed rowIn placeIn fits columnFits rowFits packedOf valueIn unpack rowsBits bitsOf numOf width bitLength bitsIn
+window-replays = refl

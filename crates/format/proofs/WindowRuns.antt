@@ -1,7 +1,8 @@
--- A window's runs and lookups are the column's, moved by the window's first row.
+-- A window's runs, lookups and replays are the column's, moved by the window's first row.
 --     countedFrom                                        an answer of the column, with the row that 14 names counted from the window's start
 --     window-answer                                      a row's answer
 --     window-run, window-lookup                          a run's, and a lookup's with the rows found
+--     columnAgrees, window-agrees, window-replay         a replay's: over the column, with every record's rows and recorded rows moved
 --     run-never-unfit, lookup-never-unfit                so, opened, narrowed and read with its own bytes and table, no run and no lookup meets 13
 -- Assumes nothing.
 use Prim.Native.Nat.{ℕ, zero, suc, _+_, _-_, _/_, _≤_, _<_, min}
@@ -13,14 +14,16 @@ use native.Mathlib.Nat.{add-suc}
 use native.Mathlib.Omega.{arith}
 use lib.Dec.{leb, eqb}
 use lib.ListN.{length, length-map}
-use borrow.Author.Tests.{le-leb, leb-true}
+use borrow.Author.Tests.{le-leb, leb-true, eqb-true, eqb-false, eq-eqb, ne-eqb}
 use Rattle.format.specs.declared.Block.{Block}
 use Rattle.format.specs.declared.Column.{Column}
+use Rattle.format.specs.declared.Recording.{Recording}
 use Rattle.format.specs.Outcome.{Outcome, Outcome.value, Outcome.refusal, _>>=_, _>>_, demand, pick}
 use Rattle.format.specs.Opening.{Loaded, opened}
 use Rattle.format.specs.Reading.{columnRow, windowFits, fits, packedOf, valueAt, blockAt, askedAs, rowAt}
 use Rattle.format.specs.Runs.{readRun, decoded}
-use Rattle.format.specs.Lookup.{allRead, passes, rowsPassing, lookedUp}
+use Rattle.format.specs.Lookup.{allRead, passes, rowsPassing, lookedUp, within}
+use Rattle.format.specs.Replaying.{headerOf, recordAt, listedFrom, isRecording, sameRows, areRows, foundAre, agrees, firstDiffering, reported, replayed}
 use Rattle.format.specs.Demands.{filledBy}
 use Rattle.format.proofs.Outcomes.{not-value}
 use Rattle.format.proofs.Rows.{ValueOr14, value-or-14}
@@ -121,7 +124,44 @@ module _ (read all : ℕ → Outcome ℕ) (k : ℕ) where
       go true = refl
       go false = refl
 
--- ---- a window's runs and lookups
+-- ---- recorded rows, moved by k
+
+-- every row of a list is k or a later one
+abbrev From : (k : ℕ) → List ℕ → Type 0
+From k [] = Unit {0}
+From k (x ∷ xs) = (k ≤ x) × From k xs
+
+found-later : (read : ℕ → Outcome ℕ) (test : ℕ → Bool) (k r n : ℕ) → k ≤ r → From k (rowsPassing read test r n)
+unfolding rowsPassing
+found-later read test k r zero h = tt
+found-later read test k r (suc n) h = by (passes test (read r)) (found-later read test k (suc r) n (omega arith))
+  where
+    by : (b : Bool) → From k (rowsPassing read test (suc r) n) → From k (pick b (r ∷ rowsPassing read test (suc r) n) (rowsPassing read test (suc r) n))
+    by true rest = (h, rest)
+    by false rest = rest
+
+-- one row of them is a recorded one exactly where it is that one moved
+moved-equal : (k x y : ℕ) → k ≤ x → eqb (x - k) y ≡ eqb x (k + y)
+moved-equal k x y h = by (eqb x (k + y)) refl
+  where
+    by : (b : Bool) → eqb x (k + y) ≡ b → eqb (x - k) y ≡ b
+    by true e = let is = eqb-true x (k + y) e in eq-eqb (x - k) y (omega arith)
+    by false e = let is = eqb-false x (k + y) e in ne-eqb (x - k) y (λ (q : x - k ≡ y). is (omega arith))
+
+moved-rows : (k : ℕ) (xs ys : List ℕ) → From k xs → sameRows (rowsFrom k xs) ys ≡ sameRows xs (map (λ (q : ℕ). k + q) ys)
+unfolding sameRows
+moved-rows k [] [] h = refl
+moved-rows k [] (y ∷ ys) h = refl
+moved-rows k (x ∷ xs) [] h = refl
+moved-rows k (x ∷ xs) (y ∷ ys) h = rw (moved-equal k x y (h .0), moved-rows k xs ys (h .1))
+
+-- lookups that agree with what was recorded record by record differ first at one record
+differs-same : (agree other : ℕ → Bool) → ((i : ℕ) → agree i ≡ other i) → (i n : ℕ) → firstDiffering agree i n ≡ firstDiffering other i n
+unfolding firstDiffering
+differs-same agree other same i zero = refl
+differs-same agree other same i (suc n) = rw (same i, differs-same agree other same (suc i) n)
+
+-- ---- a window's runs, lookups and replays
 
 module _ (col : Column) (t : List Block) (s : List ℕ) (inside : windowFits col ≡ true) where
   abbrev k : ℕ
@@ -154,6 +194,37 @@ module _ (col : Column) (t : List Block) (s : List ℕ) (inside : windowFits col
       let moved : (x : ℕ) → first ≤ x → x < first + n → read x ≡ countedFrom k (all (k + x)) = λ x low high. window-answer col t s x inside (omega arith) in
       rw (same, moved-read read all k first n moved, moved-found read all k test first n moved)
       (moved-answer read all k (allRead all (k + first) n) (rowsPassing all test (k + first) n) room)
+
+  -- record i's lookup, over the window's rows as the column counts them, finds its recorded rows, each moved by the window's first row
+  abbrev pub columnAgrees : Recording → (recording : List ℕ) (i : ℕ) → Bool
+  columnAgrees h recording i =
+      let r = recordAt h recording i in
+      foundAre all (within (r .low) (r .high)) (columnRow col (r .first)) (min (r .end) (col .window .rows) - r .first) (map (columnRow col) (listedFrom h recording (r .place) (r .many)))
+
+  pub window-agrees : (h : Recording) (recording : List ℕ) (i : ℕ) → agrees read (col .window .rows) h recording i ≡ columnAgrees h recording i
+  unfolding agrees foundAre
+  window-agrees h recording i =
+      let r = recordAt h recording i in
+      let test = within (r .low) (r .high) in
+      let first = r .first in
+      let n = min (r .end) (col .window .rows) - r .first in
+      let moved : (x : ℕ) → first ≤ x → x < first + n → read x ≡ countedFrom k (all (k + x)) = λ x low high. window-answer col t s x inside (omega arith) in
+      rw (moved-read read all k first n moved, moved-found read all k test first n moved)
+      (go (listedFrom h recording (r .place) (r .many)) (allRead all (k + first) n) (rowsPassing all test (k + first) n) (found-later all test k (k + first) n (omega arith)))
+    where
+      go : (recorded : List ℕ) (u : Outcome (Unit {0})) (found : List ℕ) → From k found
+          → areRows recorded (countedFrom k u >> value (rowsFrom k found)) ≡ areRows (map (columnRow col) recorded) (u >> value found)
+      go recorded (value x) found later = moved-rows k found recorded later
+      go recorded (refusal number also) found later = refl
+
+  -- a replay in the window is one over the column, of records moved so; what is no recording is refused all the same
+  pub window-replay : (recording : List ℕ)
+      → replayed read (col .window .rows) recording
+      ≡ (demand (isRecording recording) 19 [] >> value (reported (headerOf recording .records) (firstDiffering (columnAgrees (headerOf recording) recording) 0 (headerOf recording .records))))
+  unfolding replayed
+  window-replay recording =
+      let h = headerOf recording in
+      rw (differs-same (agrees read (col .window .rows) h recording) (columnAgrees h recording) (window-agrees h recording) 0 (h .records))
 
 -- ---- what is refused is refused for a row
 

@@ -3,30 +3,33 @@
 --     reads, written-of                  what a call left is what was found
 --     own-rows, own-fits                 a column that was opened and narrowed answers its own rows with a value or 14: never 12, never 13; it fits together with its own bytes and table
 --     Shows, Returned, calls-return      demand 2: what was written opens, and through any window in it `row` and `lookup` give the values back
+--     Accepted, calls-accept             .. and is not vacuous: fewer than 2^32 values, known codecs of which one applies: with room enough `serialize` answers the column's length, and the column stands at the output's front
 --     by-sheet, calls-pass               .. under either sheet
 --     Told, calls-tell                   demand 3: what `row` answers depends on its row's own bits, and tells every change of them
 -- Assumes nothing.
 use Prim.Native.Nat.{ℕ, zero, suc, _+_, _/_, _^_, _≤_, _<_}
 use mathlib.Core.Path.{_≡_, refl, sym, ap, _∙_, subst}
 use mathlib.Core.Logic.{_⊎_, inl, inr, ⊎-elim}
-use mathlib.Core.List.{List, []}
+use mathlib.Core.List.{List, [], _∷_, _++_}
 use mathlib.Core.Bool.{Bool, true, false}
+use native.Mathlib.Nat.{zero-add}
 use native.Mathlib.Omega.{arith}
-use lib.ListN.{length, take, getD}
-use lib.Seq.{sets}
+use lib.ListN.{length, take, drop, getD}
+use lib.Seq.{sets, sets-eq}
 use borrow.Author.Tests.{lt-ltb}
 use Rattle.format.specs.declared.Block.{Block}
 use Rattle.format.specs.declared.Column.{Column}
 use Rattle.format.specs.declared.Found.{Found}
 use Rattle.format.specs.declared.Opened.{Opened}
 use Rattle.format.specs.declared.Opened.the-variants.{Column as OpenedColumn}
-use Rattle.format.specs.declared.Refusal.the-variants.{OutOfBounds}
+use Rattle.format.specs.declared.Refusal.the-variants.{OutputShort, OutOfBounds}
 use Rattle.format.specs.declared.Spelling.{Spelling}
 use Rattle.format.specs.declared.Spelling.the-variants.{Shortest}
 use Rattle.format.specs.declared.RowRead.{RowRead}
 use Rattle.format.specs.declared.RowRead.the-variants.{Value, Refused as NotRead}
 use Rattle.format.specs.declared.Window.{Window}
-use Rattle.format.specs.declared.Written.the-variants.{Length}
+use Rattle.format.specs.declared.Written.{Written}
+use Rattle.format.specs.declared.Written.the-variants.{Length, Refused as NotWritten}
 use Rattle.format.specs.Outcome.{Outcome, Outcome.value, Outcome.refusal}
 use Rattle.format.specs.Word.{AllBelow}
 use Rattle.format.specs.Refusals.{rowMeaning}
@@ -37,11 +40,13 @@ use Rattle.format.specs.Sheets.{openedUnder}
 use Rattle.format.specs.Reading.{columnRow, blockAt, fits, rowIn, rowAt}
 use Rattle.format.specs.Windows.{windowed, inWindow}
 use Rattle.format.specs.Lookup.{lookedUp, within}
-use Rattle.format.specs.Demands.{filledBy, answered, shown, readsAs, GivesBack, Alike, SameBits, Differ, RowsTell}
-use Rattle.format.proofs.Answers.{row-injective, opened-injective}
+use Rattle.format.specs.Lengths.{reserve}
+use Rattle.format.specs.Demands.{filledBy, answered, shown, readsAs, GivesBack, Applies, Alike, SameBits, Differ, RowsTell}
+use Rattle.format.proofs.Answers.{row-injective, opened-injective, written-injective}
 use Rattle.format.proofs.Outcomes.{not-value, value-same}
 use Rattle.format.proofs.Windows.{NarrowedFrom, own-windows, never-unfit}
-use Rattle.format.proofs.Writes.{written-as}
+use Rattle.format.proofs.Writes.{written-as, Writes, never-needless}
+use Rattle.format.proofs.MostBytes.{reserved}
 use Rattle.format.proofs.Demand2.{demand2, written-shortest, written-passes}
 use Rattle.format.proofs.Demand3.{demand3}
 use Rattle.format.proofs.Stores.{front-of}
@@ -165,6 +170,34 @@ calls-return vs cs out written-out n each wrote table after enough a opened-as =
     let front : take n written-out ≡ w .0 = front-of out written-out (w .0) n (w .2) (w .3) (written-as vs cs (w .0) (length out) (w .1) .fits) in
     subst (λ (s : List ℕ). OpenedAs (opened s (length table)) a table after → Returned vs s after a) (sym front)
     (returned vs cs (w .0) table after (length out) each (w .1) enough a) opened-as
+
+-- ---- demand 2, not vacuous
+
+-- what `serialize` does with values that have a column, whatever output it is lent. With room: the column's length, the column at the output's front, the rest as it was. Without: refusal 4 with that length, and the output
+-- as it was. Room of which the list's length alone tells is enough
+pub record Accepted (vs cs bytes : List ℕ) : Type 0 where
+  pub most : length bytes ≤ reserve (length vs)
+  pub there : (out after : List ℕ) (a : Written) → length bytes ≤ length out → SerializedAs (written vs cs (length out)) a out after
+      → (a ≡ Length (length bytes)) × (after ≡ bytes ++ drop (length bytes) out)
+  pub short : (out after : List ℕ) (a : Written) → length out < length bytes → SerializedAs (written vs cs (length out)) a out after
+      → (a ≡ NotWritten (OutputShort (length bytes))) × (after ≡ out)
+
+pub calls-accept : (vs cs : List ℕ) (j : ℕ) → length vs < 2 ^ 32 → AllBelow 3 cs → j < length cs → Applies (getD cs j 0) vs → (bytes : List ℕ) × Accepted vs cs bytes
+calls-accept vs cs j few known h applies = (
+  w .bytes,
+  record {
+    most = reserved vs cs (w .bytes) (length (w .bytes)) (w .there (length (w .bytes)) (omega arith));
+    there = λ out after a room wrote.
+        let r : SerializedAs (value (w .bytes)) a out after = subst (λ (x : Outcome (List ℕ)). SerializedAs x a out after) (w .there (length out) room) wrote in
+        (written-injective a (Length (length (w .bytes))) (r .answer), r .list ∙ sets-eq (w .bytes) out 0 (omega arith) ∙ ap (λ (n : ℕ). w .bytes ++ drop n out) (zero-add (length (w .bytes))));
+    short = λ out after a less wrote.
+        let r : SerializedAs (refusal 4 (length (w .bytes) ∷ [])) a out after = subst (λ (x : Outcome (List ℕ)). SerializedAs x a out after) (w .short (length out) less) wrote in
+        (written-injective a (NotWritten (OutputShort (length (w .bytes)))) (r .answer), r .list);
+  },
+)
+  where
+    w : Writes vs cs
+    w = never-needless vs cs j few (λ i l. omega (arith, known i l)) h applies
 
 -- ---- sheets
 

@@ -1,15 +1,17 @@
 -- The demands of columns of signed numbers, dates, bools and floats, of the calls' own answers: from the contracts of `serialize_as`, `open`, `row` and `lookup`.
 --     ShowsAs, ReturnedAs, typed-return              demand 2: what was written of a list of any kind opens, and reads and looks up as the list
+--     typed-accept                                   .. and is not vacuous: fewer than 2^32 values, known codecs of which one applies
 --     typed-pass                                     .. under either sheet
 --     signed-rows, date-rows, flag-rows, float-rows  .. by the answers that `signed`, `flag` and `float_bits` make of `row`'s
 --     looked-by, signed-looked, flag-looked, float-looked
 --                                                    `lookup` by the range of some values is a lookup of those, in any column
 --     typed-tell                                     demand 3: what two answers read as differs where the row's bits do
 -- Assumes nothing.
-use Prim.Native.Nat.{ℕ, _+_, _^_, _≤_, _<_}
+use Prim.Native.Nat.{ℕ, zero, suc, _+_, _^_, _≤_, _<_}
 use mathlib.Core.Path.{_≡_, sym, _∙_, subst}
 use mathlib.Core.Bool.{Bool}
 use mathlib.Core.List.{List}
+use native.Mathlib.Omega.{arith}
 use lib.Dec.{ltb}
 use lib.IntN.{ℤ}
 use lib.ListN.{length, take, getD}
@@ -44,14 +46,15 @@ use Rattle.format.specs.Reading.{rowAt}
 use Rattle.format.specs.Windows.{windowed, inWindow}
 use Rattle.format.specs.Lookup.{lookedUp, within}
 use Rattle.format.specs.Typed.{storedAs, readAs, Reading, readingOf, meant, lies, between, Covers, signedBits, signedOf, flagOf, floatOf, signeds, flags, floats, signedRange, flagRange, floatRange}
-use Rattle.format.specs.Demands.{filledBy, answered, shown, readsAs, GivesBackAs, Alike, SameBits, TellAs}
+use Rattle.format.specs.Demands.{filledBy, answered, shown, readsAs, Applies, GivesBackAs, Alike, SameBits, TellAs}
 use Rattle.format.proofs.Answers.{opened-injective, signed-injective, flag-injective, float-injective}
 use Rattle.format.proofs.Writes.{written-as}
+use Rattle.format.proofs.StoredLists.{stored-length}
 use Rattle.format.proofs.TypedLookups.{row-words, covered-lookup, signed-covers, flag-covers, float-covers}
 use Rattle.format.proofs.TypedDemands.{returns-as, shortest-as, passes-as, tell-typed}
 use Rattle.format.proofs.Stores.{front-of}
 use Rattle.format.specs.Calls.{OpenedAs, FoundAs, SerializedAs}
-use Rattle.records.proofs.Calls.{TableOpens, reads, written-of, by-sheet}
+use Rattle.records.proofs.Calls.{TableOpens, reads, written-of, Accepted, calls-accept, by-sheet}
 
 -- ---- demand 2
 
@@ -107,6 +110,18 @@ typed-return kind xs cs out written-out n each wrote table after enough a opened
     let front : take n written-out ≡ w .0 = front-of out written-out (w .0) n (w .2) (w .3) (written-as vs cs (w .0) (length out) (w .1) .fits) in
     subst (λ (s : List ℕ). OpenedAs (opened s (length table)) a table after → ReturnedAs kind xs s after a) (sym front)
     (returned-as kind xs cs (w .0) table after (length out) each (w .1) enough a) opened-as
+
+-- a codec applies to the stored numbers of some values where it applies to them
+applies-as : (kind : Kind) (xs : List ℕ) (codec : ℕ) → Applies codec xs → Applies codec (storedAs kind xs)
+applies-as kind xs zero h = tt
+applies-as kind xs (suc zero) h = omega (arith, h, stored-length kind xs)
+applies-as kind xs (suc (suc codec)) h = tt
+
+-- demand 2 is not vacuous: `serialize_as` writes such values wherever there is room for their column
+pub typed-accept : (kind : Kind) (xs cs : List ℕ) (j : ℕ) → length xs < 2 ^ 32 → AllBelow 3 cs → j < length cs → Applies (getD cs j 0) xs
+    → (bytes : List ℕ) × Accepted (storedAs kind xs) cs bytes
+typed-accept kind xs cs j few known h applies =
+    calls-accept (storedAs kind xs) cs j (omega (arith, few, stored-length kind xs)) known h (applies-as kind xs (getD cs j 0) applies)
 
 -- the same under either sheet
 pub typed-pass : (kind : Kind) (xs cs out written-out : List ℕ) (n : ℕ) → AllBelow (2 ^ 64) xs → SerializedAs (written (storedAs kind xs) cs (length out)) (Length n) out written-out
