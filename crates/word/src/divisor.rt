@@ -62,11 +62,15 @@ pub fn divides(d: Divisor, n: u64) -> bool
     q * d.by == n
 }
 
-// Internal: asks for a divisor above 0 that was made ready. A number divided by it.
+// Internal: asks for a divisor above 0 that was made ready. A number divided by it: itself where the divisor is 1, the product with the inverse where it is a
+// multiple.
 pub fn quotient(d: Divisor, n: u64) -> u64
     requires { ⌜ Ready d × (0 < d .by) ⌝ }
     ensures { λ r. ⌜ r ≡ n / d .by ⌝ }
 {
+    if d.by == 1 {
+        return n;
+    }
     let q = crate::mul(n >> d.shift, d.inverse);
     if q <= d.most {
         if q * d.by == n {
