@@ -24,20 +24,20 @@ pub fn estimate(stats: ColumnStats) -> usize
     stats::head_len(stats) + bitpacker::packed_len(stats.rows as usize, bits)
 }
 
-// Packs the normalised values to the front of the output. A value is normalised on its way into the packer.
+// Packs the normalised values to the front of the output. A value is normalised on its way into the packer, by a gcd that was made ready to divide by.
 fn pack_normalised(kind: Kind, values: &[u64], stats: ColumnStats, bits: u8, out: &mut [u8])
     requires { ⌜ Describes stats (storedAs kind (now values)) ⌝ }
     requires { ⌜ Packable bits (map (normalised stats) (storedAs kind (now values))) (now out) ⌝ }
     ensures { λ _. ⌜ now (out .exit) ≡ packed bits (map (normalised stats) (storedAs kind (now (values .entry)))) ++ drop (bytesFor (bits * length (now (values .entry)))) (now (out .entry)) ⌝ }
 {
     let minimum = stats.minimum;
-    let gcd = stats.gcd;
+    let gcd = word::divisor::ready(stats.gcd);
     let rows = values.len();
     let mut packer = BitPacker::new();
     let mut i = 0;
     while i < rows {
         let v = monotonic_mapping::stored_of(kind, values[i]);
-        packer = packer.write(out, stats::divide(v - minimum, gcd), bits);
+        packer = packer.write(out, word::divisor::quotient(gcd, v - minimum), bits);
         i += 1;
     }
     packer.close(out);

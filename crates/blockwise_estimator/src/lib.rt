@@ -77,10 +77,11 @@ fn load(kind: Kind, values: &[u64], at: usize, minimum: u64, gcd: u64, block: &m
     requires { ⌜ at + length (now block) ≤ length (now values) ⌝ }
     ensures { λ _. ⌜ now (block .exit) ≡ normals minimum gcd (take (length (now (block .entry))) (drop at (storedAs kind (now (values .entry))))) ⌝ }
 {
+    let by = word::divisor::ready(gcd);
     let mut i = 0;
     while i < block.len() {
         let v = monotonic_mapping::stored_of(kind, values[at + i]);
-        block[i] = stats::divide(v - minimum, gcd);
+        block[i] = word::divisor::quotient(by, v - minimum);
         i += 1;
     }
 }

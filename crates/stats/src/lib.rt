@@ -1,6 +1,6 @@
 // The head of a column, which holds its statistics, and what is worked out of them: the bounds, and the value so many steps above the least.
 ghost use mathlib.Core.Path.{_≡_};
-ghost use Prim.Native.Nat.{_+_, _*_, _/_, _^_, _≤_, _<_};
+ghost use Prim.Native.Nat.{_+_, _*_, _^_, _≤_, _<_};
 ghost use lib.Dec.{ltb};
 ghost use lib.ListN.{length};
 ghost use Rattle.format.specs.Outcome.{Wrote};
@@ -26,17 +26,6 @@ pub fn count_of(stats: ColumnStats) -> u64
     ensures { λ r. ⌜ r ≡ countOf stats ⌝ }
 {
     (stats.maximum - stats.minimum) / stats.gcd
-}
-
-// Internal: asks for a gcd above 0. A division by the gcd, of which a column in steps of 1, and every estimate, is spared.
-pub fn divide(n: u64, gcd: u64) -> u64
-    requires { ⌜ 0 < gcd ⌝ }
-    ensures { λ r. ⌜ r ≡ n / gcd ⌝ }
-{
-    if gcd == 1 {
-        return n;
-    }
-    n / gcd
 }
 
 // Internal: asks for the same statistics. How many bytes their head takes.

@@ -4,8 +4,12 @@ ghost use Prim.Native.Nat.{_^_, _<_};
 ghost use lib.ListN.{length};
 ghost use Rattle.format.specs.Stats.{gcd, distance, statsOf};
 ghost use Rattle.format.specs.Typed.{storedAs};
+ghost use Rattle.word.specs.Divisors.{Ready};
 use format::ColumnStats;
 use format::Kind;
+use word::divisor::Divisor;
+use word::divisor::divides;
+use word::divisor::ready;
 
 // The greatest common divisor, by Euclid's rule.
 fn gcd_of(a: u64, b: u64) -> u64
@@ -28,14 +32,20 @@ fn apart(a: u64, b: u64) -> u64
     if a < b { b - a } else { a - b }
 }
 
-// The gcd of a distance and of the distances before it. Once it is 1 it stays, and the distance is not worked out.
-fn joined(a: u64, b: u64, g: u64) -> u64
-    ensures { λ r. ⌜ r ≡ gcd (distance a b) g ⌝ }
+// The gcd of a distance and of the distances before it, which was made ready to divide by. Once it is 1 it stays, and the distance is not worked out;
+// nor is it divided where it is a multiple, which nearly all are.
+fn joined(a: u64, b: u64, g: Divisor) -> Divisor
+    requires { ⌜ Ready g ⌝ }
+    ensures { λ r. ⌜ (r .by ≡ gcd (distance a b) (g .by)) × Ready r ⌝ }
 {
-    if g == 1 {
-        return 1;
+    if g.by == 1 {
+        return g;
     }
-    gcd_of(apart(a, b), g)
+    let d = apart(a, b);
+    if divides(g, d) {
+        return g;
+    }
+    ready(gcd_of(d, g.by))
 }
 
 // Internal: asks for fewer than 2^32 values. The statistics of the numbers that they are stored as.
@@ -55,7 +65,7 @@ pub fn collect(kind: Kind, values: &[u64]) -> ColumnStats
     let first = monotonic_mapping::stored_of(kind, values[0]);
     let mut lo = first;
     let mut hi = first;
-    let mut g = 0;
+    let mut g = ready(0);
     let mut i = 1;
     while i < n {
         let v = monotonic_mapping::stored_of(kind, values[i]);
@@ -67,7 +77,7 @@ pub fn collect(kind: Kind, values: &[u64]) -> ColumnStats
     ColumnStats {
         minimum: lo,
         maximum: hi,
-        gcd: word::larger(g, 1),
+        gcd: word::larger(g.by, 1),
         rows: n as u32,
     }
 }

@@ -11,6 +11,7 @@ use Rattle.format.proofs.Folds.{fold-step, fold-end, reduce-start}
 use Rattle.format.proofs.StoredLists.{stored-length, stored-at}
 use Rattle.format.specs.Typed.{storedAs}
 use Rattle.format.specs.Stats.{foldFrom, reduce, gcd, least, greatest, distance, gcdFrom, statsOf}
+use Rattle.word.specs.Divisors.{Ready}
 use Rattle.stats_collector.proofs.collect.Statement.{statement}
 use Rattle.stats_collector.proofs.collect.Tie as tie
 
@@ -52,7 +53,7 @@ finish vs first lo hi g i m rows count past rest e =
     λ j. record { minimum = low j; maximum = high j; gcd = common j; rows = count j }
 
 abbrev Inv-loop : tie.InvT-loop
-Inv-loop kind values n first lo₀ hi₀ g₀ i₀ lo hi g i = Rest (storedAs kind values) first lo hi g i
+Inv-loop kind values n first lo₀ hi₀ g₀ i₀ lo hi g i = Rest (storedAs kind values) first lo hi (g .by) i × Ready g
 
 abbrev μ-loop : tie.MeasureT-loop
 μ-loop kind values n first lo₀ hi₀ g₀ i₀ lo hi g i = n - i
@@ -67,11 +68,14 @@ shared-slice-read-stored-of c = search needs
 stored-of-requires : tie.Need-stored-of-requires Inv-loop μ-loop
 stored-of-requires c κs = search needs
 
+ready-requires : tie.Need-ready-requires Inv-loop μ-loop
+ready-requires c κs = search needs
+
 loop-holds : tie.Need-loop-holds Inv-loop μ-loop
 loop-holds c =
-    let a = c .before .before .before .before .args in
-    let is = c .stored-of .ensures ∙ sym (stored-at (a .kind) (now (a .values)) 0 (omega arith)) in
-    rw is (start _ (rw (stored-length (a .kind) (now (a .values))) (omega arith)))
+    let a = c .before .before .before .before .before .args in
+    let is = c .before .stored-of .ensures ∙ sym (stored-at (a .kind) (now (a .values)) 0 (omega arith)) in
+    (rw (is, c .ready .ensures .0) (start _ (rw (stored-length (a .kind) (now (a .values))) (omega arith))), c .ready .ensures .1)
 
 mul-stored-of : tie.Need-mul-stored-of Inv-loop μ-loop
 mul-stored-of c = search needs
@@ -101,10 +105,12 @@ loop-again : tie.Need-loop-again Inv-loop μ-loop
 loop-again c =
     let turn = c .before .before .before in
     let at-loop = turn .before .before .before in
-    let a = at-loop .before .before .before .before .before .args in
-    let is = turn .stored-of2 .ensures ∙ sym (stored-at (a .kind) (now (a .values)) (at-loop .loop .i) (search needs)) in
-    rw (c .before .before .lesser .ensures, c .before .larger .ensures, c .joined .ensures, is)
-    (step _ _ _ _ _ _ (rw (stored-length (a .kind) (now (a .values))) (search needs)) (at-loop .loop .inv))
+    let a = at-loop .before .before .before .before .before .before .args in
+    let is = turn .stored-of2 .ensures ∙ sym (stored-at (a .kind) (now (a .values)) (at-loop .loop .i) (search needs)) in (
+      rw (c .before .before .lesser .ensures, c .before .larger .ensures, c .joined .ensures .0, is)
+          (step _ _ _ _ _ _ (rw (stored-length (a .kind) (now (a .values))) (search needs)) (at-loop .loop .inv .0)),
+      c .joined .ensures .1,
+    )
 
 larger-requires-2 : tie.Need-larger-requires-2 Inv-loop μ-loop
 larger-requires-2 c κs = search needs
@@ -115,8 +121,8 @@ cast-t17 c = search needs
 returns-2 : tie.Need-returns-2 Inv-loop μ-loop
 returns-2 c =
     let at-loop = c .before .before in
-    let a = at-loop .before .before .before .before .before .args in
-    finish _ _ _ _ _ _ _ _ (sym (stored-length (a .kind) (now (a .values)))) (c .before .loop-test .left) (at-loop .loop .inv) (c .larger2 .ensures)
+    let a = at-loop .before .before .before .before .before .before .args in
+    finish _ _ _ _ _ _ _ _ (sym (stored-length (a .kind) (now (a .values)))) (c .before .loop-test .left) (at-loop .loop .inv .0) (c .larger2 .ensures)
 
 pub collect-spec : {M : Type 1} → statement M
 collect-spec =
@@ -127,6 +133,7 @@ collect-spec =
     returns
     shared-slice-read-stored-of
     stored-of-requires
+    ready-requires
     loop-holds
     mul-stored-of
     shared-slice-read-stored-of-2
