@@ -434,13 +434,42 @@ pub(crate) fn row_range(rows: &impl RangeBounds<u32>) -> Range<u32> {
     start..end
 }
 
-/// Puts the rows with a stored number from `low` to `high` behind those that were found before. They are looked up a chunk at a time, with room for all its rows.
+/// Puts the rows with a stored number from `low` to `high` behind those that were found before. They are decoded a chunk at a time and once, where a lookup of
+/// the library would go over them twice, to count and to store: it has to leave a list that is too short as it was.
 pub(crate) fn find_stored(view: View<'_>, [low, high]: [u64; 2], rows: Range<u32>, found: &mut Vec<u32>) -> Result<(), Error> {
     let end = rows.end.min(view.numbers.window_rows as u32);
-    let mut hits = [0; BLOCK as usize];
+    let (mut stored, mut hits) = ([0; BLOCK as usize], [0; BLOCK as usize]);
     for chunk in chunks(view.numbers, rows.start..end) {
-        let many = view.lookup(low, high, chunk, &mut hits)?;
-        found.extend_from_slice(&hits[..many]);
+        let stored = &mut stored[..chunk.len()];
+        view.run(chunk.start, stored)?;
+        // A refused row decides also where nothing is looked for.
+        if let Some(span) = high.checked_sub(low)
+            && !all_outside(stored, low, span)
+        {
+            let many = gather(stored, low, span, chunk.start, &mut hits);
+            found.extend_from_slice(&hits[..many]);
+        }
     }
     Ok(())
+}
+
+/// Whether all numbers are known to lie outside `low` to `low + span`, by the top bits of how far each lies above the low end and of what is then left of the
+/// span, which need no comparison. Of a span of 2^63 or more nothing is known.
+fn all_outside(numbers: &[u64], low: u64, span: u64) -> bool {
+    let outside = |number: u64| {
+        let above = number.wrapping_sub(low);
+        (above | span.wrapping_sub(above)) >> 63
+    };
+    span >> 63 == 0 && numbers.iter().map(|&number| outside(number)).sum::<u64>() == numbers.len() as u64
+}
+
+/// Puts the rows whose number lies in `low` to `low + span` to the front of a list: how many they are. Each row is put there, and the next one over it if it is
+/// none of them, so that there is no branch to be guessed.
+fn gather(numbers: &[u64], low: u64, span: u64, first: u32, hits: &mut [u32; BLOCK as usize]) -> usize {
+    let mut many = 0;
+    for (row, &number) in (first..).zip(numbers) {
+        hits[many % hits.len()] = row;
+        many += usize::from(number.wrapping_sub(low) <= span);
+    }
+    many
 }

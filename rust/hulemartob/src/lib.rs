@@ -33,9 +33,12 @@
 //! # What is proved
 //!
 //! The code here passes numbers on to the archive that is proved, and makes room for what it answers. It is Rust, and not proved itself; tests hold it against
-//! the archive, the C header and the documents. Of the format it knows how much room a column takes at most ([`max_encoded_len`], a number of which that is
-//! proved), that rows are worked on 512 at a time, the greatest value and the width that a head means ([`Column::maximum`], [`Column::width`]), and where the
-//! numbers of a recording stand, once the library has said that it is one.
+//! the archive, the C header and the documents. What it knows of the format by itself is little:
+//!
+//! - how much room a column takes at most ([`max_encoded_len`]), a number of which that is proved;
+//! - that rows are best decoded 512 at a time; [`Column::find`] then compares the numbers that the archive decoded with the range that it made of the bounds;
+//! - the greatest value and the width that a head means ([`Column::maximum`], [`Column::width`]);
+//! - where the numbers of a recording stand, once the archive has said that it is one ([`Recording`]).
 //!
 //! # Linking
 //!
