@@ -4,6 +4,7 @@
 //!
 //! What both answer alike is counted. Every difference is put under its cause, with the smallest input met; one without a cause is an error.
 
+mod compat;
 mod lists;
 mod rust;
 mod tally;
@@ -11,7 +12,7 @@ mod typed;
 
 use std::process::ExitCode;
 
-use hulemartob::{Codec, Column, Error, Kind, Mismatch, Sheet, check, max_encoded_len, raw, stats};
+use hulemartob::{Codec, Column, Error, Kind, Mismatch, Sheet, Value, check, max_encoded_len, raw, stats};
 use lists::Random;
 use tally::{Cause, Tally};
 
@@ -58,11 +59,13 @@ fn write(tally: &mut Tally, values: &[u64], codecs: &[u8]) -> Result<Vec<u8>, Er
 fn compare_writing(tally: &mut Tally, values: &[u64], codecs: &[u8]) -> Option<Vec<u8>> {
     let theirs = rust::write(values, codecs);
     match (write(tally, values, codecs), theirs) {
-        (Ok(ours), Ok(theirs)) if ours == theirs => {
+        (Ok(ours), Ok(theirs)) if ours == theirs && compat::write(values, codecs).as_ref() == Ok(&ours) => {
             tally.alike(format!("columns written, codec {}", ours[0]), 1);
             return Some(ours);
         }
-        (Err(Error::NoCodecApplies), Err(rust::Failed::Error)) => tally.alike("lists that no listed codec takes", 1),
+        (Err(Error::NoCodecApplies), Err(rust::Failed::Error)) if compat::write(values, codecs) == Err(compat::Failed::Error) => {
+            tally.alike("lists that no listed codec takes", 1)
+        }
         _ => tally.differ("writing", None, values.len(), || format!("codecs {codecs:?}, {values:?}")),
     }
     None
@@ -223,6 +226,10 @@ fn compare_column(tally: &mut Tally, random: &mut Random, bytes: &[u8], values: 
             compare_runs(tally, random, &column, &theirs);
             compare_lookups(tally, random, &column, &theirs, values);
             compare_windows(tally, random, &column, &theirs, values);
+            compare_names(tally, &column, |value| value);
+        }
+        _ if compat::open::<u64>(bytes).is_err_and(|failed| failed == compat::Failed::Panic) => {
+            tally.differ("a panic of opening by the crate's names", None, bytes.len(), || hex(bytes));
         }
         (Err(error), Err(failed)) => {
             let how = if failed == rust::Failed::Panic { "a panic" } else { "an error" };
@@ -232,6 +239,39 @@ fn compare_column(tally: &mut Tally, random: &mut Random, bytes: &[u8], values: 
             tally.differ("opening", cause_of_opening(bytes, error), bytes.len(), || format!("{}: {error:?}", hex(bytes)));
         }
         (Ok(_), Err(failed)) => tally.differ("opening", None, bytes.len(), || format!("{} opens here, {failed:?}", hex(bytes))),
+    }
+}
+
+/// A column by the crate's names over this library: each answer is that of the library's own call, and where that refuses a panic.
+fn compare_names<T>(tally: &mut Tally, column: &Column<T, &[u8]>, bits: impl Fn(T) -> u64)
+where
+    T: Value + hulemartob::compat::MonotonicallyMappableToU64,
+{
+    let bytes = column.bytes();
+    let Ok(named) = compat::open::<T>(bytes) else {
+        return tally.differ("opening by the crate's names", None, bytes.len(), || hex(bytes));
+    };
+    let rows = column.len().min(READ);
+    let mut random = Random::new(bytes.len() as u64);
+    let first = random.below(rows as usize + 1) as u32;
+    let many = random.below((rows - first) as usize + 1);
+    let of = |value: Result<T, Error>| value.map(&bits).map_err(|_| compat::Failed::Panic);
+    let of_run = |run: Vec<T>| run.into_iter().map(&bits).collect::<Vec<u64>>();
+    let (least, greatest, rows_named) = named.head();
+    let mut run = vec![T::default(); many];
+    let run = column.read_into(first, &mut run).map(|()| of_run(run)).map_err(|_| compat::Failed::Panic);
+    let (low, high) = (column.get(first).unwrap_or_default(), column.maximum());
+    let found = column.find(low..=high, first..rows).map_err(|_| compat::Failed::Panic);
+    let same = [
+        (bits(least), bits(greatest), rows_named) == (bits(column.minimum()), bits(column.maximum()), column.len()),
+        (first..rows).step_by(7).chain([column.len()]).all(|row| named.row(row).map(&bits) == of(column.get(row))),
+        named.run(first, many).map(of_run) == run,
+        named.find(low..=high, first..rows) == found,
+    ];
+    if same == [true; 4] {
+        tally.alike("columns read by the crate's names", 1);
+    } else {
+        tally.differ("reading by the crate's names", None, bytes.len(), || format!("{} {many} rows from {first}: {same:?}", hex(bytes)));
     }
 }
 

@@ -8,7 +8,7 @@ use crate::rust;
 use crate::tally::{Cause, Tally};
 
 /// A type of values on both sides.
-trait Typed: Value {
+trait Typed: Value + hulemartob::compat::MonotonicallyMappableToU64 {
     const NAME: &'static str;
     type Theirs: MonotonicallyMappableToU64;
 
@@ -189,6 +189,7 @@ fn compare_column<T: Typed>(tally: &mut Tally, random: &mut Random, bytes: &[u8]
         tally.differ("typed rows", None, bytes.len(), || format!("{} {}", crate::hex(bytes), T::NAME));
     }
     compare_lookups::<T>(tally, random, &column, &theirs, words);
+    crate::compare_names(tally, &column, T::bits);
 }
 
 /// A list as values of a type: statistics, writing by each codec and by all, and what each column reads as.
