@@ -6,7 +6,7 @@ use std::sync::Arc;
 
 use columnar::column_values::{load_u64_based_column_values, serialize_u64_based_column_values};
 use columnar::{CodecType, ColumnValues, OwnedBytes};
-use hulemartob::{Column, column_stats, most_bytes, serialize_into};
+use hulemartob::{Codec, Column, encode_into, encode_with, max_encoded_len, stats};
 
 use crate::{inputs, typed};
 
@@ -20,8 +20,10 @@ pub struct Case {
     pub theirs: Work,
 }
 
-pub const CODECS: [(u8, &str); 3] = [(0, "Bitpacked"), (1, "Linear"), (2, "Blockwise")];
-pub const TYPES: [CodecType; 3] = [CodecType::Bitpacked, CodecType::Linear, CodecType::BlockwiseLinear];
+/// A codec as the Rust names it.
+pub fn their(codec: Codec) -> CodecType {
+    [CodecType::Bitpacked, CodecType::Linear, CodecType::BlockwiseLinear][codec as usize]
+}
 
 pub fn sum(values: impl Iterator<Item = u64>) -> u64 {
     values.fold(0, |sum, value| sum.wrapping_add(value))
@@ -30,31 +32,28 @@ pub fn sum(values: impl Iterator<Item = u64>) -> u64 {
 /// A column that both sides have opened.
 struct Both {
     bytes: &'static [u8],
-    ours: Arc<Column<'static>>,
+    ours: Arc<Column>,
     theirs: Arc<dyn ColumnValues<u64>>,
 }
 
 impl Both {
-    fn open(values: &[u64], codec: u8) -> Both {
-        let mut out = vec![0; most_bytes(values.len())];
-        let length = serialize_into(values, &[codec], &mut out).unwrap();
-        out.truncate(length);
-        let bytes: &'static [u8] = out.leak();
+    fn open(values: &[u64], codec: Codec) -> Both {
+        let bytes: &'static [u8] = encode_with(values, &[codec]).unwrap().leak();
         let theirs = load_u64_based_column_values(OwnedBytes::new(bytes.to_vec())).unwrap();
         Both { bytes, ours: Arc::new(Column::open(bytes).unwrap()), theirs }
     }
 }
 
-fn writing(name: String, values: Vec<u64>, codecs: Vec<u8>) -> Case {
+fn writing(name: String, values: Vec<u64>, codecs: &'static [Codec]) -> Case {
     let rows = values.len();
     let values = Arc::new(values);
-    let (mut out, mut vec) = (vec![0; most_bytes(rows)], Vec::with_capacity(most_bytes(rows)));
-    let types: Vec<CodecType> = codecs.iter().map(|&codec| TYPES[codec as usize]).collect();
+    let (mut out, mut vec) = (vec![0; max_encoded_len(rows)], Vec::with_capacity(max_encoded_len(rows)));
+    let types: Vec<CodecType> = codecs.iter().map(|&codec| their(codec)).collect();
     let theirs = values.clone();
     Case {
         name,
         rows,
-        ours: Box::new(move || serialize_into(black_box(&values), &codecs, &mut out).unwrap() as u64),
+        ours: Box::new(move || encode_into(black_box(&values[..]), codecs, &mut out).unwrap() as u64),
         theirs: Box::new(move || {
             vec.clear();
             serialize_u64_based_column_values(&black_box(&theirs[..]), &types, &mut vec).unwrap();
@@ -70,7 +69,7 @@ fn statistics(name: String, values: Vec<u64>) -> Case {
     Case {
         name,
         rows,
-        ours: Box::new(move || column_stats(black_box(&values)).map(|s| s.minimum ^ s.maximum ^ s.gcd).unwrap()),
+        ours: Box::new(move || stats(black_box(&values[..])).map(|s| s.minimum ^ s.maximum ^ s.gcd).unwrap()),
         theirs: Box::new(move || {
             let stats = columnar::stats(black_box(&theirs));
             stats.min_value ^ stats.max_value ^ stats.gcd.get()
@@ -83,7 +82,7 @@ fn opening(name: String, both: Both, rows: usize) -> Case {
     Case {
         name,
         rows,
-        ours: Box::new(move || Column::open(black_box(both.bytes)).unwrap().max_value()),
+        ours: Box::new(move || Column::open(black_box(both.bytes)).unwrap().maximum()),
         theirs: Box::new(move || load_u64_based_column_values::<u64>(black_box(&owned).clone()).unwrap().max_value()),
     }
 }
@@ -95,7 +94,7 @@ fn single_rows(name: String, both: &Both, rows: usize) -> Case {
     Case {
         name,
         rows,
-        ours: Box::new(move || sum(list.iter().map(|&row| ours.row(black_box(row)).unwrap()))),
+        ours: Box::new(move || sum(list.iter().map(|&row| ours.get(black_box(row)).unwrap()))),
         theirs: Box::new(move || sum(again.iter().map(|&row| theirs.get_val(black_box(row))))),
     }
 }
@@ -109,7 +108,7 @@ fn all_rows(name: String, both: &Both, rows: usize) -> Case {
         rows,
         ours: Box::new(move || {
             for (row, value) in (0..).zip(&mut here) {
-                *value = ours.row(row).unwrap();
+                *value = ours.get(row).unwrap();
             }
             sum(here.iter().copied())
         }),
@@ -129,7 +128,7 @@ fn runs(name: String, both: &Both, rows: usize, size: usize) -> Case {
         rows,
         ours: Box::new(move || {
             for (first, part) in (0..).step_by(size).zip(here.chunks_mut(size)) {
-                ours.run_into(black_box(first), part).unwrap();
+                ours.read_into(black_box(first), part).unwrap();
             }
             sum(here.iter().copied())
         }),
@@ -144,8 +143,8 @@ fn runs(name: String, both: &Both, rows: usize, size: usize) -> Case {
 
 /// The lower half of the values that the head allows.
 fn lower_half(both: &Both) -> RangeInclusive<u64> {
-    let low = both.ours.min_value();
-    low..=low + (both.ours.max_value() - low) / 2
+    let low = both.ours.minimum();
+    low..=low + (both.ours.maximum() - low) / 2
 }
 
 /// Ranges of values that many rows lie in: all, one in a hundred, and, if two neighbours leave a gap, none.
@@ -164,7 +163,10 @@ fn looking_up(name: String, both: &Both, rows: usize, range: RangeInclusive<u64>
     Case {
         name,
         rows,
-        ours: Box::new(move || ours.lookup_into(black_box(range.clone()), 0..rows as u32, &mut found).unwrap() as u64),
+        ours: Box::new(move || {
+            let (low, high) = black_box(range.clone()).into_inner();
+            ours.raw().lookup(low, high, 0..rows as u32, &mut found).unwrap() as u64
+        }),
         theirs: Box::new(move || {
             hits.clear();
             theirs.get_row_ids_for_value_range(black_box(again.clone()), 0..rows as u32, &mut hits);
@@ -176,11 +178,12 @@ fn looking_up(name: String, both: &Both, rows: usize, range: RangeInclusive<u64>
 /// All cases, on columns of so many rows.
 pub fn all(rows: usize) -> Vec<Case> {
     let mut cases = vec![
-        statistics("statistics, gcd 1".into(), inputs::values(0, 32, rows)),
+        statistics("statistics, gcd 1".into(), inputs::values(Codec::Bitpacked, 32, rows)),
         statistics("statistics, gcd 10^9".into(), inputs::times(rows)),
     ];
-    for (codec, name) in CODECS {
-        for bits in [4, 13, 20, 32, 64].into_iter().filter(|&bits| codec == 0 || bits < 64) {
+    for (name, codecs) in Codec::ALL.iter().zip(Codec::ALL.each_ref().map(std::slice::from_ref)) {
+        let codec = codecs[0];
+        for bits in [4, 13, 20, 32, 64].into_iter().filter(|&bits| codec == Codec::Bitpacked || bits < 64) {
             let values = inputs::values(codec, bits, rows);
             let both = Both::open(&values, codec);
             cases.push(single_rows(format!("{name} {bits}: single rows"), &both, rows));
@@ -193,12 +196,12 @@ pub fn all(rows: usize) -> Vec<Case> {
                     cases.push(looking_up(format!("{name} {bits}: lookup, {many} found"), &both, rows, range));
                 }
             }
-            cases.push(writing(format!("{name} {bits}: writing"), values, vec![codec]));
+            cases.push(writing(format!("{name} {bits}: writing"), values, codecs));
             cases.push(opening(format!("{name} {bits}: opening"), both, rows));
         }
     }
-    cases.push(writing("any codec: writing times".into(), inputs::times(rows), vec![0, 1, 2]));
-    cases.push(writing("any codec: writing noise".into(), inputs::values(0, 32, rows), vec![0, 1, 2]));
+    cases.push(writing("any codec: writing times".into(), inputs::times(rows), &Codec::ALL));
+    cases.push(writing("any codec: writing noise".into(), inputs::values(Codec::Bitpacked, 32, rows), &Codec::ALL));
     cases.extend(typed::all(rows));
     cases
 }
@@ -206,6 +209,6 @@ pub fn all(rows: usize) -> Vec<Case> {
 /// Writing with a choice of all codecs, and reading every row back.
 pub fn growing(rows: usize) -> [Case; 2] {
     let values = inputs::times(rows);
-    let both = Both::open(&values, 2);
-    [all_rows("reading".into(), &both, rows), writing("writing".into(), values, vec![0, 1, 2])]
+    let both = Both::open(&values, Codec::Blockwise);
+    [all_rows("reading".into(), &both, rows), writing("writing".into(), values, &Codec::ALL)]
 }

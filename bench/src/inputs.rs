@@ -1,5 +1,7 @@
 //! What is measured on. Every run has the same inputs.
 
+use hulemartob::Codec;
+
 /// SplitMix64.
 pub struct Random(pub u64);
 
@@ -17,14 +19,14 @@ impl Random {
 }
 
 /// Numbers whose packed form has so many bits a row: noise, on a line for Linear, on a line for each block for Blockwise.
-pub fn values(codec: u8, bits: u32, rows: usize) -> Vec<u64> {
+pub fn values(codec: Codec, bits: u32, rows: usize) -> Vec<u64> {
     let mut random = Random(u64::from(bits));
     let mut value = |row: u64| {
         let noise = random.bits(bits);
         match codec {
-            0 => noise,
-            1 => 1_000_000 + 3000 * row + noise,
-            _ => 5_000_000 + (1 + row / 512 % 7) * 1000 * (row % 512) + noise,
+            Codec::Bitpacked => noise,
+            Codec::Linear => 1_000_000 + 3000 * row + noise,
+            Codec::Blockwise => 5_000_000 + (1 + row / 512 % 7) * 1000 * (row % 512) + noise,
         }
     };
     (0..rows as u64).map(&mut value).collect()

@@ -5,22 +5,22 @@ use std::sync::Arc;
 
 use columnar::column_values::{load_u64_based_column_values, serialize_u64_based_column_values};
 use columnar::{ColumnValues, MonotonicallyMappableToU64, OwnedBytes};
-use hulemartob::{Column, Value, most_bytes, serialize_as_into};
+use hulemartob::{Codec, Column, Value, encode_into, encode_with, max_encoded_len};
 
-use crate::cases::{CODECS, Case, TYPES, sum};
+use crate::cases::{Case, sum, their};
 use crate::inputs;
 
-fn writing<T: Value + MonotonicallyMappableToU64>(name: String, values: Arc<Vec<T>>, codec: u8) -> Case {
+fn writing<T: Value + MonotonicallyMappableToU64>(name: String, values: Arc<Vec<T>>, codec: Codec) -> Case {
     let rows = values.len();
-    let (mut out, mut vec) = (vec![0; most_bytes(rows)], Vec::with_capacity(most_bytes(rows)));
+    let (mut out, mut vec) = (vec![0; max_encoded_len(rows)], Vec::with_capacity(max_encoded_len(rows)));
     let theirs = values.clone();
     Case {
         name,
         rows,
-        ours: Box::new(move || serialize_as_into(black_box(&values[..]), &[codec], &mut out).unwrap() as u64),
+        ours: Box::new(move || encode_into(black_box(&values[..]), &[codec], &mut out).unwrap() as u64),
         theirs: Box::new(move || {
             vec.clear();
-            serialize_u64_based_column_values(&black_box(&theirs[..]), &TYPES[codec as usize..][..1], &mut vec).unwrap();
+            serialize_u64_based_column_values(&black_box(&theirs[..]), &[their(codec)], &mut vec).unwrap();
             vec.len() as u64
         }),
     }
@@ -29,31 +29,28 @@ fn writing<T: Value + MonotonicallyMappableToU64>(name: String, values: Arc<Vec<
 /// Single rows, all rows, and the rows with the lower half of the values, of a Bitpacked column.
 fn reading<T: Value + MonotonicallyMappableToU64>(name: &str, values: &[T], half: T) -> [Case; 3] {
     let rows = values.len();
-    let mut out = vec![0; most_bytes(rows)];
-    let length = serialize_as_into(values, &[0], &mut out).unwrap();
-    out.truncate(length);
-    let bytes: &'static [u8] = out.leak();
-    let column = Arc::new(Column::open(bytes).unwrap());
+    let bytes: &'static [u8] = encode_with(values, &[Codec::Bitpacked]).unwrap().leak();
+    let column = Arc::new(Column::open(bytes).unwrap().typed::<T>());
     let theirs: Arc<dyn ColumnValues<T>> = load_u64_based_column_values(OwnedBytes::new(bytes.to_vec())).unwrap();
     let list = Arc::new(inputs::some_rows(rows, rows));
     let again = list.clone();
     let (single, get_val) = (column.clone(), theirs.clone());
     let (run, get_range) = (column.clone(), theirs.clone());
     let (mut here, mut there) = (vec![half; rows], vec![half; rows]);
-    let low = T::from_u64(column.min_value());
+    let low = column.minimum();
     let (mut found, mut hits) = (vec![0; rows], Vec::with_capacity(rows));
     [
         Case {
             name: format!("{name}: single rows"),
             rows,
-            ours: Box::new(move || sum(list.iter().map(|&row| single.row_as::<T>(black_box(row)).unwrap().to_u64()))),
+            ours: Box::new(move || sum(list.iter().map(|&row| single.get(black_box(row)).unwrap().to_u64()))),
             theirs: Box::new(move || sum(again.iter().map(|&row| get_val.get_val(black_box(row)).to_u64()))),
         },
         Case {
             name: format!("{name}: run of all rows"),
             rows,
             ours: Box::new(move || {
-                run.run_as_into(0, &mut here).unwrap();
+                run.read_into(0, &mut here).unwrap();
                 sum(here.iter().map(|value| value.to_u64()))
             }),
             theirs: Box::new(move || {
@@ -64,7 +61,10 @@ fn reading<T: Value + MonotonicallyMappableToU64>(name: &str, values: &[T], half
         Case {
             name: format!("{name}: lookup"),
             rows,
-            ours: Box::new(move || column.lookup_as_into(black_box(low..=half), 0..rows as u32, &mut found).unwrap() as u64),
+            ours: Box::new(move || {
+                let (low, high) = black_box((low.to_stored(), half.to_stored()));
+                column.raw().lookup(low, high, 0..rows as u32, &mut found).unwrap() as u64
+            }),
             theirs: Box::new(move || {
                 hits.clear();
                 theirs.get_row_ids_for_value_range(black_box(low..=half), 0..rows as u32, &mut hits);
@@ -77,8 +77,8 @@ fn reading<T: Value + MonotonicallyMappableToU64>(name: &str, values: &[T], half
 fn of_a_type<T: Value + MonotonicallyMappableToU64>(name: &str, rows: usize, half: T, value: impl Fn(u64) -> T) -> Vec<Case> {
     let values = |codec| inputs::values(codec, 13, rows).into_iter().map(&value).collect::<Vec<T>>();
     let mut cases: Vec<Case> =
-        CODECS.iter().map(|&(codec, by)| writing(format!("{by} 13: writing {name}"), Arc::new(values(codec)), codec)).collect();
-    cases.extend(reading(name, &values(0), half));
+        Codec::ALL.iter().map(|&codec| writing(format!("{codec} 13: writing {name}"), Arc::new(values(codec)), codec)).collect();
+    cases.extend(reading(name, &values(Codec::Bitpacked), half));
     cases
 }
 

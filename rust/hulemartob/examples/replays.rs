@@ -1,4 +1,4 @@
-//! Times a recording of 100,000 lookups beside as many calls of `lookup_into`, each compared with the recorded rows:
+//! Times a recording of 100,000 lookups beside as many calls of `lookup`, each compared with the recorded rows:
 //!
 //!     cargo run --offline --release --example replays [REPEATS]
 //!
@@ -7,7 +7,7 @@
 use std::hint::black_box;
 use std::time::Instant;
 
-use hulemartob::{Codec, Column, Recorded, Recording, RecordingBuilder, serialize};
+use hulemartob::{Codec, Column, Recorded, Recording, RecordingBuilder, encode_with};
 
 const ROWS: u32 = 65_536;
 const LOOKUPS: u32 = 100_000;
@@ -18,18 +18,18 @@ fn spread(place: u32) -> u64 {
 }
 
 /// So many lookups, each over a run of rows, for a tenth of the values.
-fn record(column: &Column, run: u32) -> Vec<u8> {
+fn record(column: &Column<u64, Vec<u8>>, run: u32) -> Vec<u8> {
     let mut builder = RecordingBuilder::new();
     for k in 0..LOOKUPS {
         let (low, first) = (spread(k) % 900, spread(k + LOOKUPS) as u32 % (ROWS - run));
-        builder.look_up(column, low..=low + 99, first..first + run).expect("a sound column");
+        builder.record(column, low..=low + 99, first..first + run).expect("a sound column");
     }
     builder.finish()
 }
 
-fn by_lookup(column: &Column, records: &[Recorded], found: &mut [u32]) -> u32 {
+fn by_lookup(column: &Column<u64, Vec<u8>>, records: &[Recorded], found: &mut [u32]) -> u32 {
     let agrees = |r: &&Recorded| {
-        let many = column.lookup_into(r.values.clone(), r.rows.clone(), found).expect("a sound column");
+        let many = column.raw().lookup(*r.values.start(), *r.values.end(), r.rows.clone(), found).expect("a sound column");
         found[..many] == r.found
     };
     records.iter().take_while(agrees).count() as u32
@@ -52,8 +52,7 @@ fn main() {
     println!("{LOOKUPS} lookups, median of {repeats} repeats.\n");
     println!("| codec | rows a lookup | lookups, µs each | replayed | ratio |\n|---|---|---|---|---|");
     for codec in Codec::ALL {
-        let bytes = serialize(&values, &[codec]).expect("a codec that applies");
-        let column = Column::open(&bytes).expect("a column");
+        let column = Column::open(encode_with(&values, &[codec]).expect("a codec that applies")).expect("a column");
         for run in [16, 512] {
             let recording = record(&column, run);
             let records: Vec<Recorded> = Recording::read(&recording).expect("a recording").iter().collect();
@@ -65,7 +64,7 @@ fn main() {
                 })
                 .unzip();
             let (calls, replays) = (median(calls) / f64::from(LOOKUPS), median(replays) / f64::from(LOOKUPS));
-            println!("| {codec:?} | {run} | {calls:.3} | {replays:.3} | {:.2} |", replays / calls);
+            println!("| {codec} | {run} | {calls:.3} | {replays:.3} | {:.2} |", replays / calls);
         }
     }
 }

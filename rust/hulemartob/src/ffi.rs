@@ -1,365 +1,189 @@
-//! The functions of the static library, each behind a safe one. No other file of this crate has unsafe code.
+//! The functions of the archive, each behind a safe one. No other file of this crate has unsafe code.
 //!
-//! A slice passes as a pointer and a length, an array as a pointer. The library's functions are total: whatever is behind the
-//! pointers, they read and write only inside them, and end. They ask of a caller what Rust asks of a reference, so that each block
-//! below has the same reason: every pointer comes from a reference that lives through the call, with its own length beside it, and
-//! what is lent as `&mut` is lent to nothing else.
+//! The archive's functions are total: whatever is behind their pointers, they read and write only inside the lengths beside them, end, and keep no pointer.
+//! What they ask of a caller is what Rust asks of a reference (include/hulemartob.h): that a pointer leads to as many elements as are said, aligned, and that
+//! nothing else reads or writes what is lent to be written. So wherever below every pointer is that of a reference, and every length that of its slice, a
+//! call is sound; this is what the comments call *lent*.
+#![allow(unsafe_code)]
 
 use std::mem::ManuallyDrop;
-use std::ops::RangeInclusive;
+use std::ops::Range;
 use std::slice;
 
-use crate::{Block, Date, Kind, Refusal};
+use crate::raw::{Block, Numbers, View};
+use crate::{Date, Error, Kind, Part, Replay, Stats};
 
+/// A refusal's number, 0 for none, and the value that it also returns.
+type Refusal = [u64; 2];
+
+#[rustfmt::skip]
 unsafe extern "C" {
-    fn hulemartob_column_stats(values: *const u64, values_len: usize, stats: *mut [u64; 4], refusal: *mut [u64; 2]);
+    fn hulemartob_column_stats(values: *const u64, values_len: usize, stats: &mut [u64; 4], refusal: &mut Refusal);
+    fn hulemartob_column_stats_as(kind: u32, values: *const u64, values_len: usize, stats: &mut [u64; 4], refusal: &mut Refusal);
 
-    fn hulemartob_serialize(
-        values: *const u64,
-        values_len: usize,
-        codecs: *const u8,
-        codecs_len: usize,
-        out: *mut u8,
-        out_len: usize,
-        refusal: *mut [u64; 2],
-    ) -> usize;
+    fn hulemartob_serialize(values: *const u64, values_len: usize, codecs: *const u8, codecs_len: usize,
+        out: *mut u8, out_len: usize, refusal: &mut Refusal) -> usize;
+    fn hulemartob_serialize_as(kind: u32, values: *const u64, values_len: usize, codecs: *const u8, codecs_len: usize,
+        out: *mut u8, out_len: usize, refusal: &mut Refusal) -> usize;
 
-    fn hulemartob_open_under(
-        sheet: u32,
-        bytes: *const u8,
-        bytes_len: usize,
-        table: *mut Block,
-        table_len: usize,
-        column: *mut [u64; 12],
-        refusal: *mut [u64; 2],
-    ) -> u64;
+    fn hulemartob_open_under(sheet: u32, bytes: *const u8, bytes_len: usize, table: *mut Block, table_len: usize,
+        column: &mut Numbers, refusal: &mut Refusal) -> u64;
+    fn hulemartob_narrow(column: &mut Numbers, first: u32, count: u32, refusal: &mut Refusal);
 
-    fn hulemartob_narrow(column: *mut [u64; 12], first: u32, count: u32, refusal: *mut [u64; 2]);
+    fn hulemartob_row(column: &Numbers, table: *const Block, table_len: usize, bytes: *const u8, bytes_len: usize,
+        row: u32, refusal: &mut Refusal) -> u64;
+    fn hulemartob_run(column: &Numbers, table: *const Block, table_len: usize, bytes: *const u8, bytes_len: usize,
+        first: u32, out: *mut u64, out_len: usize, refusal: &mut Refusal) -> usize;
+    fn hulemartob_lookup(column: &Numbers, table: *const Block, table_len: usize, bytes: *const u8, bytes_len: usize,
+        low: u64, high: u64, first: u32, end: u32, found: *mut u32, found_len: usize, refusal: &mut Refusal) -> usize;
+    fn hulemartob_replay(column: &Numbers, table: *const Block, table_len: usize, bytes: *const u8, bytes_len: usize,
+        recording: *const u8, recording_len: usize, report: &mut [u64; 2], refusal: &mut Refusal);
+    fn hulemartob_part_at(column: &Numbers, bytes: *const u8, bytes_len: usize, offset: usize, part: &mut [u64; 5], refusal: &mut Refusal);
+    fn hulemartob_rows_at(column: &Numbers, table: *const Block, table_len: usize, bytes: *const u8, bytes_len: usize,
+        offset: usize, rows: &mut [u64; 2], refusal: &mut Refusal);
 
-    fn hulemartob_row(
-        column: *const [u64; 12],
-        table: *const Block,
-        table_len: usize,
-        bytes: *const u8,
-        bytes_len: usize,
-        row: u32,
-        refusal: *mut [u64; 2],
-    ) -> u64;
-
-    fn hulemartob_lookup(
-        column: *const [u64; 12],
-        table: *const Block,
-        table_len: usize,
-        bytes: *const u8,
-        bytes_len: usize,
-        low: u64,
-        high: u64,
-        first: u32,
-        end: u32,
-        found: *mut u32,
-        found_len: usize,
-        refusal: *mut [u64; 2],
-    ) -> usize;
-
-    fn hulemartob_run(
-        column: *const [u64; 12],
-        table: *const Block,
-        table_len: usize,
-        bytes: *const u8,
-        bytes_len: usize,
-        first: u32,
-        out: *mut u64,
-        out_len: usize,
-        refusal: *mut [u64; 2],
-    ) -> usize;
-
-    fn hulemartob_replay(
-        column: *const [u64; 12],
-        table: *const Block,
-        table_len: usize,
-        bytes: *const u8,
-        bytes_len: usize,
-        recording: *const u8,
-        recording_len: usize,
-        report: *mut [u64; 2],
-        refusal: *mut [u64; 2],
-    );
-
-    fn hulemartob_part_at(
-        column: *const [u64; 12],
-        bytes: *const u8,
-        bytes_len: usize,
-        offset: usize,
-        part: *mut [u64; 5],
-        refusal: *mut [u64; 2],
-    );
-
-    fn hulemartob_rows_at(
-        column: *const [u64; 12],
-        table: *const Block,
-        table_len: usize,
-        bytes: *const u8,
-        bytes_len: usize,
-        offset: usize,
-        rows: *mut [u64; 2],
-        refusal: *mut [u64; 2],
-    );
-
-    fn hulemartob_column_stats_as(kind: u32, values: *const u64, values_len: usize, stats: *mut [u64; 4], refusal: *mut [u64; 2]);
-
-    fn hulemartob_serialize_as(
-        kind: u32,
-        values: *const u64,
-        values_len: usize,
-        codecs: *const u8,
-        codecs_len: usize,
-        out: *mut u8,
-        out_len: usize,
-        refusal: *mut [u64; 2],
-    ) -> usize;
-
-    fn hulemartob_check(
-        kind: u32,
-        sheet: u32,
-        bytes: *const u8,
-        bytes_len: usize,
-        values: *const u64,
-        values_len: usize,
-        table: *mut Block,
-        table_len: usize,
-        verdict: *mut [u64; 3],
-        refusal: *mut [u64; 2],
-    );
+    fn hulemartob_check(kind: u32, sheet: u32, bytes: *const u8, bytes_len: usize, values: *const u64, values_len: usize,
+        table: *mut Block, table_len: usize, verdict: &mut [u64; 3], refusal: &mut Refusal);
 
     safe fn hulemartob_i64_of(stored: u64) -> i64;
-
     safe fn hulemartob_bool_of(stored: u64) -> bool;
-
     safe fn hulemartob_f64_bits_of(stored: u64) -> u64;
-
-    fn hulemartob_i64_range(low: i64, high: i64, range: *mut [u64; 2]);
-
-    fn hulemartob_bool_range(low: bool, high: bool, range: *mut [u64; 2]);
-
-    fn hulemartob_f64_range(low: u64, high: u64, range: *mut [u64; 2]);
+    safe fn hulemartob_i64_range(low: i64, high: i64, range: &mut [u64; 2]);
+    safe fn hulemartob_bool_range(low: bool, high: bool, range: &mut [u64; 2]);
+    safe fn hulemartob_f64_range(low: u64, high: u64, range: &mut [u64; 2]);
 }
 
-/// What a call answered, by the two numbers of its refusal.
-fn answer<T>(refusal: [u64; 2], value: T) -> Result<T, Refusal> {
-    let [number, also] = refusal;
-    if number == 0 { Ok(value) } else { Err(Refusal { number: number as u8, value: also }) }
-}
-
-/// Minimum, maximum, gcd and rows.
-pub(crate) fn column_stats(values: &[u64]) -> Result<[u64; 4], Refusal> {
-    let (mut stats, mut refusal) = ([0; 4], [0; 2]);
-    // SAFETY: see the top of this file.
-    unsafe { hulemartob_column_stats(values.as_ptr(), values.len(), &mut stats, &mut refusal) };
-    answer(refusal, stats)
-}
-
-/// The length of the column that now stands in `out`.
-pub(crate) fn serialize(values: &[u64], codecs: &[u8], out: &mut [u8]) -> Result<usize, Refusal> {
-    let mut refusal = [0; 2];
-    // SAFETY: see the top of this file.
-    let length = unsafe {
-        hulemartob_serialize(values.as_ptr(), values.len(), codecs.as_ptr(), codecs.len(), out.as_mut_ptr(), out.len(), &mut refusal)
-    };
-    answer(refusal, length)
-}
-
-/// A table of so many records of zeros, whose memory is handed out as it is touched.
-pub(crate) fn zeroed_table(blocks: usize) -> Vec<Block> {
-    let mut zeros = ManuallyDrop::new(vec![[0u64; 4]; blocks]);
-    // SAFETY: the vector is not dropped, and a record is four numbers in C's layout: as long as the array, and aligned as it is.
-    unsafe { Vec::from_raw_parts(zeros.as_mut_ptr().cast(), zeros.len(), zeros.capacity()) }
-}
-
-/// The twelve numbers of a column opened under a sheet, and the offset of its first number that is spelled in more bytes than it need be; `table`
-/// has its blocks.
-pub(crate) fn open_under(sheet: u32, bytes: &[u8], table: &mut [Block]) -> Result<([u64; 12], Option<u64>), Refusal> {
-    let (mut column, mut refusal) = ([0; 12], [0; 2]);
-    // SAFETY: see the top of this file.
-    let longer =
-        unsafe { hulemartob_open_under(sheet, bytes.as_ptr(), bytes.len(), table.as_mut_ptr(), table.len(), &mut column, &mut refusal) };
-    answer(refusal, (column, (longer != u64::MAX).then_some(longer)))
-}
-
-/// The twelve numbers of a column whose window is narrowed to `count` rows from its row `first` on.
-pub(crate) fn narrow(column: &[u64; 12], first: u32, count: u32) -> Result<[u64; 12], Refusal> {
-    let (mut narrowed, mut refusal) = (*column, [0; 2]);
-    // SAFETY: see the top of this file.
-    unsafe { hulemartob_narrow(&mut narrowed, first, count, &mut refusal) };
-    answer(refusal, narrowed)
-}
-
-/// The value of a row.
+/// What a call answered.
 #[inline]
-pub(crate) fn row(column: &[u64; 12], table: &[Block], bytes: &[u8], row: u32) -> Result<u64, Refusal> {
-    let mut refusal = [0; 2];
-    // SAFETY: see the top of this file.
-    let value = unsafe { hulemartob_row(column, table.as_ptr(), table.len(), bytes.as_ptr(), bytes.len(), row, &mut refusal) };
-    answer(refusal, value)
+fn answer<T>(refusal: Refusal, value: T) -> Result<T, Error> {
+    if refusal[0] == 0 { Ok(value) } else { Err(error(refusal)) }
 }
 
-/// How many rows of `rows` have a value from `low` to `high`; `found` has them.
-pub(crate) fn lookup(
-    column: &[u64; 12],
-    table: &[Block],
-    bytes: &[u8],
-    (low, high): (u64, u64),
-    (first, end): (u32, u32),
-    found: &mut [u32],
-) -> Result<usize, Refusal> {
-    let mut refusal = [0; 2];
-    // SAFETY: see the top of this file.
-    let many = unsafe {
-        hulemartob_lookup(
-            column,
-            table.as_ptr(),
-            table.len(),
-            bytes.as_ptr(),
-            bytes.len(),
-            low,
-            high,
-            first,
-            end,
-            found.as_mut_ptr(),
-            found.len(),
-            &mut refusal,
-        )
-    };
-    answer(refusal, many)
+/// The error of a refusal. It is proved of every call that the number is one of the table.
+#[cold]
+pub(crate) fn error([number, value]: Refusal) -> Error {
+    Error::from_numbers(number, value).expect("a refusal's number")
 }
 
-/// How many values now fill `out`.
-pub(crate) fn run(column: &[u64; 12], table: &[Block], bytes: &[u8], first: u32, out: &mut [u64]) -> Result<usize, Refusal> {
-    let mut refusal = [0; 2];
-    // SAFETY: see the top of this file.
-    let many = unsafe {
-        hulemartob_run(column, table.as_ptr(), table.len(), bytes.as_ptr(), bytes.len(), first, out.as_mut_ptr(), out.len(), &mut refusal)
-    };
-    answer(refusal, many)
-}
-
-/// The index of the first record that differs, 2^64 - 1 where all agree, and how many were run.
-pub(crate) fn replay(column: &[u64; 12], table: &[Block], bytes: &[u8], recording: &[u8]) -> Result<[u64; 2], Refusal> {
-    let (mut report, mut refusal) = ([0; 2], [0; 2]);
-    // SAFETY: see the top of this file.
-    unsafe {
-        hulemartob_replay(
-            column,
-            table.as_ptr(),
-            table.len(),
-            bytes.as_ptr(),
-            bytes.len(),
-            recording.as_ptr(),
-            recording.len(),
-            &mut report,
-            &mut refusal,
-        )
-    };
-    answer(refusal, report)
-}
-
-/// The part of the byte at an offset: which, its block, offset, length and number.
-pub(crate) fn part_at(column: &[u64; 12], bytes: &[u8], offset: usize) -> Result<[u64; 5], Refusal> {
-    let (mut part, mut refusal) = ([0; 5], [0; 2]);
-    // SAFETY: see the top of this file.
-    unsafe { hulemartob_part_at(column, bytes.as_ptr(), bytes.len(), offset, &mut part, &mut refusal) };
-    answer(refusal, part)
-}
-
-/// The first row that owns a bit of the byte at an offset, and the one behind the last.
-pub(crate) fn rows_at(column: &[u64; 12], table: &[Block], bytes: &[u8], offset: usize) -> Result<[u64; 2], Refusal> {
-    let (mut rows, mut refusal) = ([0; 2], [0; 2]);
-    // SAFETY: see the top of this file.
-    unsafe { hulemartob_rows_at(column, table.as_ptr(), table.len(), bytes.as_ptr(), bytes.len(), offset, &mut rows, &mut refusal) };
-    answer(refusal, rows)
-}
-
-// ---- values of a kind
-
-/// Types that are 64 bits in memory, whichever bits these are.
-///
-/// # Safety
-///
-/// The type has the size and the alignment of `u64`, no padding, and every pattern of 64 bits is a value of it.
-pub(crate) unsafe trait Bits {}
-
-// SAFETY: an integer of 64 bits.
-unsafe impl Bits for i64 {}
-
-// SAFETY: `repr(transparent)` over an `i64`.
-unsafe impl Bits for Date {}
-
-// SAFETY: a float of 64 bits; on x86-64 it is aligned like an integer.
-unsafe impl Bits for f64 {}
-
-/// A list as its words.
-pub(crate) fn words<T: Bits>(values: &[T]) -> &[u64] {
-    // SAFETY: `Bits`; the length is the list's own, and the words live and are shared as long as the list is.
-    unsafe { slice::from_raw_parts(values.as_ptr().cast(), values.len()) }
-}
-
-/// The same, to write to.
-pub(crate) fn words_mut<T: Bits>(values: &mut [T]) -> &mut [u64] {
-    // SAFETY: as above, and whatever words are written are values of the type.
-    unsafe { slice::from_raw_parts_mut(values.as_mut_ptr().cast(), values.len()) }
-}
-
-/// Nanoseconds as dates.
-pub(crate) fn dates(nanoseconds: &[i64]) -> &[Date] {
-    // SAFETY: `Date` is `repr(transparent)` over an `i64`.
-    unsafe { slice::from_raw_parts(nanoseconds.as_ptr().cast(), nanoseconds.len()) }
-}
-
-/// Minimum, maximum, gcd and rows of what values are stored as.
-pub(crate) fn column_stats_as(kind: Kind, values: &[u64]) -> Result<[u64; 4], Refusal> {
+/// The statistics of the numbers that a list of words is stored as. Refused 1.
+pub fn stats(kind: Kind, words: &[u64]) -> Result<Stats, Error> {
     let (mut stats, mut refusal) = ([0; 4], [0; 2]);
-    // SAFETY: see the top of this file.
-    unsafe { hulemartob_column_stats_as(kind as u32, values.as_ptr(), values.len(), &mut stats, &mut refusal) };
-    answer(refusal, stats)
+    match kind {
+        // SAFETY: lent.
+        Kind::U64 => unsafe { hulemartob_column_stats(words.as_ptr(), words.len(), &mut stats, &mut refusal) },
+        // SAFETY: lent.
+        _ => unsafe { hulemartob_column_stats_as(kind as u32, words.as_ptr(), words.len(), &mut stats, &mut refusal) },
+    }
+    answer(refusal, Stats::from_numbers(stats))
 }
 
-/// The length of the column of values of a kind that now stands in `out`.
-pub(crate) fn serialize_as(kind: Kind, values: &[u64], codecs: &[u8], out: &mut [u8]) -> Result<usize, Refusal> {
-    let mut refusal = [0; 2];
-    // SAFETY: see the top of this file.
-    let length = unsafe {
-        hulemartob_serialize_as(
-            kind as u32,
-            values.as_ptr(),
-            values.len(),
-            codecs.as_ptr(),
-            codecs.len(),
-            out.as_mut_ptr(),
-            out.len(),
-            &mut refusal,
-        )
+/// Writes a list of words of a kind as a column into `out`, by that of the listed codecs whose size is least; the codecs are code bytes. Returns the
+/// column's length; the bytes behind it stay as they are. Refused 1 to 4; an output of no bytes is refused 4 with the length needed.
+pub fn serialize(kind: Kind, words: &[u64], codecs: &[u8], out: &mut [u8]) -> Result<usize, Error> {
+    let (values, many, codes, listed) = (words.as_ptr(), words.len(), codecs.as_ptr(), codecs.len());
+    let (written, room, mut refusal) = (out.as_mut_ptr(), out.len(), [0; 2]);
+    let length = match kind {
+        // SAFETY: lent.
+        Kind::U64 => unsafe { hulemartob_serialize(values, many, codes, listed, written, room, &mut refusal) },
+        // SAFETY: lent.
+        _ => unsafe { hulemartob_serialize_as(kind as u32, values, many, codes, listed, written, room, &mut refusal) },
     };
     answer(refusal, length)
 }
 
-/// The three numbers of the verdict on a column under a sheet, for a list of values of a kind. No kind that there is makes the call refuse.
-pub(crate) fn check(kind: Kind, sheet: u32, bytes: &[u8], values: &[u64], table: &mut [Block]) -> [u64; 3] {
+/// Opens the column that `bytes` hold under an acceptance sheet: its numbers, and the offset of the first number that is spelled in more bytes than it need
+/// be, if one is. The blocks of a Blockwise column are then the first records of `table`. Refused 18, then 5 to 11, then 17; a table of no records is
+/// refused 11 with the blocks needed.
+pub fn open(sheet: u32, bytes: &[u8], table: &mut [Block]) -> Result<(Numbers, Option<usize>), Error> {
+    let (mut numbers, mut refusal) = (Numbers::default(), [0; 2]);
+    let (records, room) = (table.as_mut_ptr(), table.len());
+    // SAFETY: lent.
+    let longer = unsafe { hulemartob_open_under(sheet, bytes.as_ptr(), bytes.len(), records, room, &mut numbers, &mut refusal) };
+    answer(refusal, (numbers, (longer != u64::MAX).then_some(longer as usize)))
+}
+
+/// The three numbers of the verdict on a column. No kind that there is makes the call refuse.
+pub(crate) fn check(kind: Kind, sheet: u32, bytes: &[u8], words: &[u64], table: &mut [Block]) -> [u64; 3] {
+    let (values, many, records, room) = (words.as_ptr(), words.len(), table.as_mut_ptr(), table.len());
     let (mut verdict, mut refusal) = ([0; 3], [0; 2]);
-    // SAFETY: see the top of this file.
-    unsafe {
-        hulemartob_check(
-            kind as u32,
-            sheet,
-            bytes.as_ptr(),
-            bytes.len(),
-            values.as_ptr(),
-            values.len(),
-            table.as_mut_ptr(),
-            table.len(),
-            &mut verdict,
-            &mut refusal,
-        )
-    };
+    // SAFETY: lent.
+    unsafe { hulemartob_check(kind as u32, sheet, bytes.as_ptr(), bytes.len(), values, many, records, room, &mut verdict, &mut refusal) };
     verdict
+}
+
+impl Numbers {
+    /// The same with the window narrowed to `count` rows from its row `first` on. Refused 12 if these are not in the window, then 13 if the window leaves the
+    /// column, even for no rows.
+    pub fn narrow(mut self, first: u32, count: u32) -> Result<Numbers, Error> {
+        let mut refusal = [0; 2];
+        // SAFETY: lent.
+        unsafe { hulemartob_narrow(&mut self, first, count, &mut refusal) };
+        answer(refusal, self)
+    }
+}
+
+impl View<'_> {
+    /// The stored number of a row. Refused 12 to 14.
+    #[inline]
+    pub fn row(self, row: u32) -> Result<u64, Error> {
+        let View { numbers, table, bytes } = self;
+        let mut refusal = [0; 2];
+        // SAFETY: lent.
+        let value = unsafe { hulemartob_row(numbers, table.as_ptr(), table.len(), bytes.as_ptr(), bytes.len(), row, &mut refusal) };
+        answer(refusal, value)
+    }
+
+    /// Decodes the rows from `first` on, as many as `out` has entries, which then hold their stored numbers; a refusal leaves them as they were. Refused 12 if
+    /// the run leaves the rows, then as the first row that [`View::row`] refuses. A run of several chunks of 512 rows is gone over twice.
+    #[inline]
+    pub fn run(self, first: u32, out: &mut [u64]) -> Result<(), Error> {
+        let View { numbers, table, bytes } = self;
+        let (values, many, mut refusal) = (out.as_mut_ptr(), out.len(), [0; 2]);
+        // SAFETY: lent.
+        unsafe { hulemartob_run(numbers, table.as_ptr(), table.len(), bytes.as_ptr(), bytes.len(), first, values, many, &mut refusal) };
+        answer(refusal, ())
+    }
+
+    /// Looks up the rows of a range, its end cut to the window's rows, whose stored number lies from `low` to `high`. They are then the first entries of
+    /// `found`, ascending; returns how many. The first row of the range that [`View::row`] refuses decides (13, 14); then 15 with the rows found.
+    #[inline]
+    pub fn lookup(self, low: u64, high: u64, rows: Range<u32>, found: &mut [u32]) -> Result<usize, Error> {
+        let View { numbers, table, bytes } = self;
+        let (Range { start, end }, hits, room) = (rows, found.as_mut_ptr(), found.len());
+        let (blocks, held, data, size, mut refusal) = (table.as_ptr(), table.len(), bytes.as_ptr(), bytes.len(), [0; 2]);
+        // SAFETY: lent.
+        let many = unsafe { hulemartob_lookup(numbers, blocks, held, data, size, low, high, start, end, hits, room, &mut refusal) };
+        answer(refusal, many)
+    }
+
+    /// Reruns the lookups of a recording: [`Column::replay`](crate::Column::replay). Refused 13, 19.
+    pub fn replay(self, recording: &[u8]) -> Result<Replay, Error> {
+        let View { numbers, table, bytes } = self;
+        let (lookups, length, mut report, mut refusal) = (recording.as_ptr(), recording.len(), [0; 2], [0; 2]);
+        let (blocks, held, data, size) = (table.as_ptr(), table.len(), bytes.as_ptr(), bytes.len());
+        // SAFETY: lent.
+        unsafe { hulemartob_replay(numbers, blocks, held, data, size, lookups, length, &mut report, &mut refusal) };
+        answer(refusal, Replay::from_numbers(report))
+    }
+
+    /// The part that holds the byte at an offset. Refused 13 past the last byte.
+    pub fn part_at(self, offset: usize) -> Result<Part, Error> {
+        let (mut part, mut refusal) = ([0; 5], [0; 2]);
+        // SAFETY: lent.
+        unsafe { hulemartob_part_at(self.numbers, self.bytes.as_ptr(), self.bytes.len(), offset, &mut part, &mut refusal) };
+        answer(refusal, part).map(Part::from_numbers)
+    }
+
+    /// The rows that own a bit of the byte at an offset, of the whole column, whatever its window; `0..0` where none does. Refused 13 past the last byte.
+    pub fn rows_at(self, offset: usize) -> Result<Range<u32>, Error> {
+        let View { numbers, table, bytes } = self;
+        let (mut rows, mut refusal) = ([0; 2], [0; 2]);
+        // SAFETY: lent.
+        unsafe {
+            hulemartob_rows_at(numbers, table.as_ptr(), table.len(), bytes.as_ptr(), bytes.len(), offset, &mut rows, &mut refusal);
+        }
+        answer(refusal, rows[0] as u32..rows[1] as u32)
+    }
 }
 
 /// What a stored number reads as: a signed number.
@@ -380,26 +204,58 @@ pub(crate) fn f64_bits_of(stored: u64) -> u64 {
     hulemartob_f64_bits_of(stored)
 }
 
-/// The stored numbers of the signed numbers from low to high.
-pub(crate) fn i64_range(low: i64, high: i64) -> RangeInclusive<u64> {
+/// The first and the last stored number of the signed numbers from low to high.
+pub(crate) fn i64_range(low: i64, high: i64) -> [u64; 2] {
     let mut range = [0; 2];
-    // SAFETY: see the top of this file.
-    unsafe { hulemartob_i64_range(low, high, &mut range) };
-    range[0]..=range[1]
+    hulemartob_i64_range(low, high, &mut range);
+    range
 }
 
 /// Of the bools.
-pub(crate) fn bool_range(low: bool, high: bool) -> RangeInclusive<u64> {
+pub(crate) fn bool_range(low: bool, high: bool) -> [u64; 2] {
     let mut range = [0; 2];
-    // SAFETY: see the top of this file.
-    unsafe { hulemartob_bool_range(low, high, &mut range) };
-    range[0]..=range[1]
+    hulemartob_bool_range(low, high, &mut range);
+    range
 }
 
 /// Of the floats, by their bits.
-pub(crate) fn f64_range(low: u64, high: u64) -> RangeInclusive<u64> {
+pub(crate) fn f64_range(low: u64, high: u64) -> [u64; 2] {
     let mut range = [0; 2];
-    // SAFETY: see the top of this file.
-    unsafe { hulemartob_f64_range(low, high, &mut range) };
-    range[0]..=range[1]
+    hulemartob_f64_range(low, high, &mut range);
+    range
+}
+
+/// A table of so many records of zeros, whose memory is handed out as it is touched.
+pub(crate) fn zeroed_table(blocks: usize) -> Vec<Block> {
+    let mut zeros = ManuallyDrop::new(vec![[0u64; 4]; blocks]);
+    // SAFETY: the vector is not dropped, and a record is four numbers in C's layout: as long as the array, and aligned as it is.
+    unsafe { Vec::from_raw_parts(zeros.as_mut_ptr().cast(), zeros.len(), zeros.capacity()) }
+}
+
+/// Types that are 64 bits in memory, whichever bits these are.
+///
+/// # Safety
+///
+/// The type has the size and the alignment of `u64`, no padding, and every pattern of 64 bits is a value of it.
+pub(crate) unsafe trait Bits {}
+
+// SAFETY: an integer of 64 bits.
+unsafe impl Bits for i64 {}
+
+// SAFETY: `repr(transparent)` over an `i64`.
+unsafe impl Bits for Date {}
+
+// SAFETY: a float of 64 bits, aligned as an integer is on the archive's platform.
+unsafe impl Bits for f64 {}
+
+/// A list as its words.
+pub(crate) fn words<T: Bits>(values: &[T]) -> &[u64] {
+    // SAFETY: `Bits`; the length is the list's own, and the words live and are shared as long as the list is.
+    unsafe { slice::from_raw_parts(values.as_ptr().cast(), values.len()) }
+}
+
+/// The same, to write to.
+pub(crate) fn words_mut<T: Bits>(values: &mut [T]) -> &mut [u64] {
+    // SAFETY: as above, and whatever words are written are values of the type.
+    unsafe { slice::from_raw_parts_mut(values.as_mut_ptr().cast(), values.len()) }
 }

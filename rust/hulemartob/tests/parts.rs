@@ -1,6 +1,7 @@
 //! What each byte is, and the rows that it names.
 
-use hulemartob::{Column, Part, PartName};
+use hulemartob::raw::Numbers;
+use hulemartob::{Codec, Column, Error, Part, PartName, encode_with};
 
 /// Three rows, Blockwise.
 const BLOCKWISE: [u8; 17] = [0x02, 0x8A, 0x8A, 0x82, 0x83, 0x08, 0, 0, 0, 0, 0x88, 0x80, 0x02, 0x07, 0, 0, 0];
@@ -11,48 +12,72 @@ const FIVES: [u8; 9] = [0x00, 0x80, 0x81, 0x9F, 0x84, 0x00, 0x00, 0x00, 0xFF];
 #[test]
 fn parts_follow_one_another() {
     let column = Column::open(&BLOCKWISE).unwrap();
-    let (mut at, mut parts) = (0, Vec::new());
-    while at < BLOCKWISE.len() {
-        let part = column.part_at(at).unwrap();
-        assert_eq!(part.first, at);
-        for i in at..at + part.bytes {
-            assert_eq!(column.part_at(i).unwrap(), part);
+    let parts: Vec<Part> = column.parts().map(Result::unwrap).collect();
+    let mut at = 0;
+    for part in &parts {
+        assert_eq!(part.offset, at);
+        for i in part.range() {
+            assert_eq!(column.part_of_byte(i).unwrap(), *part);
         }
-        at += part.bytes;
-        parts.push(part);
+        at += part.len;
     }
-    let part = |name, first, bytes, value| Part { name, first, bytes, value };
+    assert_eq!(at, BLOCKWISE.len());
+    let field = |name, block, offset, len, value| Part { name, block, offset, len, value: Some(value) };
     assert_eq!(
         parts,
         [
-            part(PartName::Code, 0, 1, 2),
-            part(PartName::Minimum, 1, 1, 10),
-            part(PartName::Gcd, 2, 1, 10),
-            part(PartName::Count, 3, 1, 2),
-            part(PartName::Rows, 4, 1, 3),
-            part(PartName::Area, 5, 1, 0),
-            part(PartName::BlockSlope(0), 6, 5, 1 << 31),
-            part(PartName::BlockIntercept(0), 11, 1, 0),
-            part(PartName::BlockWidth(0), 12, 1, 2),
-            part(PartName::FooterLength, 13, 4, 7),
+            field(PartName::Code, None, 0, 1, 2),
+            field(PartName::Minimum, None, 1, 1, 10),
+            field(PartName::Gcd, None, 2, 1, 10),
+            field(PartName::Count, None, 3, 1, 2),
+            field(PartName::Rows, None, 4, 1, 3),
+            Part { name: PartName::Area, block: None, offset: 5, len: 1, value: None },
+            field(PartName::BlockSlope, Some(0), 6, 5, 1 << 31),
+            field(PartName::BlockIntercept, Some(0), 11, 1, 0),
+            field(PartName::BlockWidth, Some(0), 12, 1, 2),
+            field(PartName::FooterLength, None, 13, 4, 7),
         ]
     );
 }
 
 #[test]
+fn parts_in_words() {
+    let values: Vec<u64> = (0..1025).map(|i| i * i % 97).collect();
+    let words = |codec| -> Vec<String> {
+        let column = Column::open(encode_with(&values, &[codec]).unwrap()).unwrap();
+        column.parts().map(|part| part.unwrap().to_string()).collect()
+    };
+    assert_eq!(words(Codec::Bitpacked), ["code", "minimum", "gcd", "count", "rows", "area"]);
+    assert_eq!(words(Codec::Linear)[5..], ["slope", "intercept", "width", "area"]);
+    let blocks = words(Codec::Blockwise);
+    assert_eq!(blocks[6..9], ["block 0 slope", "block 0 intercept", "block 0 width"]);
+    assert_eq!(blocks[12..], ["block 2 slope", "block 2 intercept", "block 2 width", "footer length"]);
+}
+
+#[test]
 fn rows_of_a_byte() {
     let column = Column::open(&FIVES).unwrap();
-    assert_eq!(column.rows_at(4).unwrap(), 0..0);
-    assert_eq!(column.rows_at(5).unwrap(), 0..2);
-    assert_eq!(column.rows_at(6).unwrap(), 1..4);
-    assert_eq!(column.rows_at(7).unwrap(), 3..4);
-    assert_eq!(column.rows_at(8).unwrap(), 0..0);
-    assert_eq!(column.part_at(8).unwrap().name, PartName::Behind);
+    assert_eq!(column.rows_of_byte(4).unwrap(), 0..0);
+    assert_eq!(column.rows_of_byte(5).unwrap(), 0..2);
+    assert_eq!(column.rows_of_byte(6).unwrap(), 1..4);
+    assert_eq!(column.rows_of_byte(7).unwrap(), 3..4);
+    assert_eq!(column.rows_of_byte(8).unwrap(), 0..0);
+    assert_eq!(column.part_of_byte(8).unwrap().name, PartName::Behind);
 }
 
 #[test]
 fn past_the_last_byte() {
     let column = Column::open(&FIVES).unwrap();
-    assert_eq!(column.part_at(9).unwrap_err().number, 13);
-    assert_eq!(column.rows_at(9).unwrap_err().number, 13);
+    assert_eq!(column.part_of_byte(9), Err(Error::Unfit));
+    assert_eq!(column.rows_of_byte(9), Err(Error::Unfit));
+}
+
+/// Of a made-up column that the bytes cannot hold the refusal is told once; others end with the bytes.
+#[test]
+fn parts_of_no_column() {
+    let numbers = *Column::open(&BLOCKWISE).unwrap().raw().numbers;
+    let parts = |made| Column::from_raw(&BLOCKWISE[..9], made, []).unwrap().parts().collect::<Vec<_>>();
+    assert_eq!(parts(Numbers { area_start: 100, ..numbers }), [Err(Error::Unfit)]);
+    assert_eq!(parts(Numbers { rows: 100_000, ..numbers }).len(), 9);
+    assert_eq!(parts(Numbers { codec: 1, ..numbers }).len(), 8);
 }

@@ -1,6 +1,8 @@
 //! Block tables: what opening lays into a lent one, by the call of C, and what reading makes of any.
+#![allow(unsafe_code)]
 
-use hulemartob::{Block, Codec, Column, Refusal, serialize};
+use hulemartob::raw::{Block, Numbers};
+use hulemartob::{Codec, Column, Error, encode_with};
 
 /// The rows 10, 30, 20 as a Blockwise column: its area is one byte.
 const BLOCKWISE: [u8; 17] = [0x02, 0x8A, 0x8A, 0x82, 0x83, 0x08, 0x00, 0x00, 0x00, 0x00, 0x88, 0x80, 0x02, 0x07, 0x00, 0x00, 0x00];
@@ -27,14 +29,14 @@ fn open(bytes: &[u8], table: &mut [Block]) -> ([u64; 12], [u64; 2]) {
     (column, refusal)
 }
 
-fn refused<T>(number: u8, value: u64) -> Result<T, Refusal> {
-    Err(Refusal { number, value })
+fn refused<T>(number: u64, value: u64) -> Result<T, Error> {
+    Err(Error::from_numbers(number, value).unwrap())
 }
 
 /// A list of three blocks, and its column by a codec.
 fn written(codec: Codec) -> Vec<u8> {
     let values: Vec<u64> = (0..1025).map(|i| 1000 * i + i * i % 97).collect();
-    serialize(&values, &[codec]).unwrap()
+    encode_with(&values, &[codec]).unwrap()
 }
 
 #[test]
@@ -42,25 +44,25 @@ fn no_records() {
     for codec in [Codec::Bitpacked, Codec::Linear] {
         let bytes = written(codec);
         let (column, refusal) = open(&bytes, &mut []);
-        assert_eq!((&column, refusal), (Column::open(&bytes).unwrap().numbers(), [0, 0]));
+        assert_eq!((&Numbers::from(column), refusal), (Column::open(&bytes).unwrap().raw().numbers, [0, 0]));
     }
-    assert_eq!(open(&written(Codec::BlockwiseLinear), &mut []), ([99; 12], [11, 3]));
+    assert_eq!(open(&written(Codec::Blockwise), &mut []), ([99; 12], [11, 3]));
 }
 
 #[test]
 fn a_record_too_few() {
     let mut table = [MARK; 2];
-    assert_eq!(open(&written(Codec::BlockwiseLinear), &mut table), ([99; 12], [11, 3]));
+    assert_eq!(open(&written(Codec::Blockwise), &mut table), ([99; 12], [11, 3]));
     assert_eq!(table, [MARK; 2]);
 }
 
 #[test]
 fn records_past_the_blocks() {
-    let bytes = written(Codec::BlockwiseLinear);
+    let bytes = written(Codec::Blockwise);
     let opened = Column::open(&bytes).unwrap();
     let mut table = [MARK; 5];
-    assert_eq!(open(&bytes, &mut table), (*opened.numbers(), [0, 0]));
-    assert_eq!((&table[..3], &table[3..]), (opened.table(), &[MARK; 2][..]));
+    assert_eq!(open(&bytes, &mut table), ((*opened.raw().numbers).into(), [0, 0]));
+    assert_eq!((&table[..3], &table[3..]), (opened.blocks(), &[MARK; 2][..]));
     for codec in [Codec::Bitpacked, Codec::Linear] {
         let mut table = [MARK; 5];
         assert_eq!(open(&written(codec), &mut table).1, [0, 0]);
@@ -71,8 +73,8 @@ fn records_past_the_blocks() {
 #[test]
 fn any_record() {
     let column = Column::open(&BLOCKWISE).unwrap();
-    let row = |block: Block| Column::from_parts(&BLOCKWISE, *column.numbers(), vec![block]).row(0);
-    let sound = column.table()[0];
+    let row = |block: Block| Column::from_raw(&BLOCKWISE, *column.raw().numbers, [block]).unwrap().get(0);
+    let sound = column.blocks()[0];
     assert_eq!(row(sound), Ok(10));
     assert_eq!(row(Block::default()), Ok(10));
     assert_eq!(row(Block { slope: u64::MAX, intercept: u64::MAX, width: u64::MAX, start: u64::MAX }), refused(13, 0));
@@ -96,7 +98,10 @@ fn wide_rows() {
     let stored = u64::MAX / 3;
     let bytes = stored.to_le_bytes();
     let numbers = [2, 0, 1, u64::MAX, 1, 0, 8, 0, 0, 0, 0, 1];
-    let row = |width, start| Column::from_parts(&bytes, numbers, vec![Block { width, start, ..Block::default() }]).row(0);
+    let row = |width, start| {
+        let table = [Block { width, start, ..Block::default() }];
+        Column::from_raw(&bytes, numbers.into(), table).unwrap().get(0)
+    };
     assert_eq!(row(64, 0), Ok(stored));
     assert_eq!(row(56, 0), Ok(stored % (1 << 56)));
     assert_eq!(row(56, 1), Ok(stored >> 8));

@@ -1,9 +1,8 @@
 //! Columns of signed numbers, dates, bools and floats: what is written comes back by its bits, in order, and is found by its value.
 
-use hulemartob::{
-    Codec, Column, Date, Refusal, Value, column_stats_as, serialize, serialize_as, serialize_as_into, serialize_bool, serialize_dates,
-    serialize_f64, serialize_i64,
-};
+use std::ops::Bound::{Excluded, Included};
+
+use hulemartob::{Codec, Column, Date, Error, Kind, Value, encode, encode_into, encode_with, raw, stats};
 
 /// The ends of the signed range, and the neighbours of 0.
 const SIGNED: [i64; 7] = [i64::MIN, i64::MIN + 1, -1, 0, 1, i64::MAX - 1, i64::MAX];
@@ -35,30 +34,41 @@ fn floats() -> Vec<f64> {
     FLOATS.map(f64::from_bits).to_vec()
 }
 
-/// Writes a list by each codec and by all, reads every row and the whole run back, and looks every pair of values up; `bits` tells values apart and
-/// `at_most` orders them.
+/// Writes a list by each codec and by all, reads every row, the whole run and all values back, and looks every pair of values up; `bits` tells values apart
+/// and `at_most` orders them.
 fn comes_back<T: Value, B: PartialEq + std::fmt::Debug>(values: &[T], bits: impl Fn(T) -> B, at_most: impl Fn(T, T) -> bool) {
     let each = Codec::ALL.iter().map(std::slice::from_ref);
     for codecs in each.chain([&Codec::ALL[..]]) {
-        let Ok(written) = serialize_as(values, codecs) else {
+        let Ok(written) = encode_with(values, codecs) else {
             assert!(codecs == [Codec::Linear] && values.len() < 512);
             continue;
         };
-        let column = Column::open(&written).unwrap();
+        let column = Column::open(&written).unwrap().typed::<T>();
         let all: Vec<B> = values.iter().map(|&v| bits(v)).collect();
-        let rows: Vec<B> = (0..column.rows()).map(|row| bits(column.row_as(row).unwrap())).collect();
+        let rows: Vec<B> = (0..column.len()).map(|row| bits(column.get(row).unwrap())).collect();
         assert_eq!(rows, all);
+        assert_eq!(column.iter().map(|value| bits(value.unwrap())).collect::<Vec<_>>(), all);
+        assert_eq!(column.to_vec().unwrap().into_iter().map(&bits).collect::<Vec<_>>(), all);
         let mut out = values.to_vec();
         out.reverse();
-        assert_eq!(column.run_as_into(0, &mut out), Ok(values.len()));
+        assert_eq!(column.read_into(0, &mut out), Ok(()));
         assert_eq!(out.into_iter().map(&bits).collect::<Vec<_>>(), all);
+        let below = |v, w| at_most(v, w) && !at_most(w, v);
         for &low in values.iter().take(14) {
             for &high in values.iter().take(14) {
-                let found = column.lookup_as(low..=high, 0..column.rows()).unwrap();
-                let expected: Vec<u32> =
-                    (0..).zip(values).filter(|&(_, &v)| at_most(low, v) && at_most(v, high)).map(|(row, _)| row).collect();
-                assert_eq!(found, expected);
+                let expected = |inside: &dyn Fn(T) -> bool| -> Vec<u32> {
+                    (0..).zip(values).filter(|&(_, &v)| inside(v)).map(|(row, _)| row).collect()
+                };
+                let found = column.find(low..=high, ..).unwrap();
+                assert_eq!(found, expected(&|v| at_most(low, v) && at_most(v, high)));
+                let found = column.find(low..high, ..).unwrap();
+                assert_eq!(found, expected(&|v| at_most(low, v) && below(v, high)));
+                let found = column.find((Excluded(low), Included(high)), ..).unwrap();
+                assert_eq!(found, expected(&|v| below(low, v) && at_most(v, high)));
             }
+        }
+        for &value in values {
+            assert_eq!(bits(T::from_stored(value.to_stored())), bits(value));
         }
     }
 }
@@ -94,59 +104,84 @@ fn floats_by_their_bits() {
 
 #[test]
 fn plain_numbers_are_the_same_column() {
-    let values = [10, 30, 20];
-    assert_eq!(serialize_as(&values, &Codec::ALL), serialize(&values, &Codec::ALL));
+    let values = [10u64, 30, 20];
+    let mut out = [0; 6];
+    assert_eq!(raw::serialize(Kind::U64, &values, &[0, 1, 2], &mut out), Ok(6));
+    assert_eq!(encode(&values).unwrap(), out);
     comes_back(&values, |v| v, |v, w| v <= w);
 }
 
 #[test]
 fn stored_numbers() {
-    let stored = |bytes: Vec<u8>| -> Vec<u64> {
-        let column = Column::open(&bytes).unwrap();
-        (0..column.rows()).map(|row| column.row(row).unwrap()).collect()
-    };
+    let stored = |bytes: Vec<u8>| Column::open(bytes).unwrap().to_vec().unwrap();
     let climbing = [0, 1, (1 << 63) - 1, 1 << 63, (1 << 63) + 1, u64::MAX - 1, u64::MAX];
-    assert_eq!(stored(serialize_i64(&SIGNED, &Codec::ALL).unwrap()), climbing);
-    assert_eq!(stored(serialize_dates(&SIGNED, &Codec::ALL).unwrap()), climbing);
-    assert_eq!(stored(serialize_bool(&[false, true], &Codec::ALL).unwrap()), [0, 1]);
-    let rising = stored(serialize_f64(&floats(), &Codec::ALL).unwrap());
+    assert_eq!(stored(encode(&SIGNED).unwrap()), climbing);
+    assert_eq!(SIGNED.map(Value::to_stored), climbing);
+    assert_eq!(stored(encode(&SIGNED.map(Date)).unwrap()), climbing);
+    assert_eq!(SIGNED.map(|v| Date(v).to_stored()), climbing);
+    assert_eq!(stored(encode(&[false, true]).unwrap()), [0, 1]);
+    assert_eq!([false, true].map(Value::to_stored), [0, 1]);
+    let rising = stored(encode(&floats()).unwrap());
+    assert_eq!(floats().into_iter().map(Value::to_stored).collect::<Vec<_>>(), rising);
     assert!(rising.is_sorted_by(|a, b| a < b));
     // -0.0 directly under +0.0
     assert_eq!(rising[6..8], [(1 << 63) - 1, 1 << 63]);
     assert_eq!((rising[0], rising[13]), (0, u64::MAX));
 }
 
-/// Each reading has a name of its own.
+/// The kind at run time: lists are lent as words.
 #[test]
-fn named_readings() {
-    let bytes = serialize_i64(&[-10, 10, 0], &[Codec::Bitpacked]).unwrap();
+fn words_of_a_kind() {
+    fn same<T: Value>(values: &[T], words: &[u64]) {
+        let mut out = vec![0; 200];
+        let length = raw::serialize(T::KIND, words, &[0, 2], &mut out).unwrap();
+        assert_eq!(out[..length], encode_with(values, &[Codec::Bitpacked, Codec::Blockwise]).unwrap());
+        assert_eq!(raw::stats(T::KIND, words), stats(values));
+        assert_eq!(raw::check(T::KIND, 2, &out[..length], words), Ok(()));
+        assert_eq!(raw::check(T::KIND, 2, &out[..length], &words[1..]), raw::check(T::KIND, 2, &encode(values).unwrap(), &words[1..]));
+    }
+    same(&[10u64, 30, 20], &[10, 30, 20]);
+    same(&SIGNED, &SIGNED.map(|v| v as u64));
+    same(&SIGNED.map(Date), &SIGNED.map(|v| v as u64));
+    same(&[true, false], &[7, 0]);
+    same(&floats(), &FLOATS);
+}
+
+#[test]
+fn readings_of_one_column() {
+    let bytes = encode_with(&[-10i64, 10, 0], &[Codec::Bitpacked]).unwrap();
     assert_eq!(bytes, [0x00, 0x76, 0x7F, 0x7F, 0x7F, 0x7F, 0x7F, 0x7F, 0x7F, 0xFF, 0x8A, 0x82, 0x83, 0x18]);
     let column = Column::open(&bytes).unwrap();
-    assert_eq!((column.row_i64(0), column.row_date(1)), (Ok(-10), Ok(10)));
-    assert_eq!(column.lookup_i64(-10..=0, 0..3).unwrap(), [0, 2]);
-    assert_eq!(column.lookup_date(1..=i64::MAX, 0..3).unwrap(), [1]);
-    let stats = column_stats_as(&[-10i64, 10, 0]).unwrap();
+    let (signed, dates) = (column.clone().typed::<i64>(), column.clone().typed::<Date>());
+    assert_eq!((signed.get(0), dates.get(1)), (Ok(-10), Ok(Date(10))));
+    assert_eq!((signed.minimum(), signed.maximum(), column.minimum()), (-10, 10, (1 << 63) - 10));
+    assert_eq!(signed.find(-10..=0, 0..3).unwrap(), [0, 2]);
+    assert_eq!(dates.find(Date(1).., 0..3).unwrap(), [1]);
+    let stats = stats(&[-10i64, 10, 0]).unwrap();
     assert_eq!((stats.minimum, stats.maximum, stats.gcd, stats.rows), ((1 << 63) - 10, (1 << 63) + 10, 10, 3));
 }
 
 #[test]
 fn a_stored_two_is_true() {
-    let column = Column::open(&UP_TO_TWO).unwrap();
-    assert_eq!((0..3).map(|row| column.row(row).unwrap()).collect::<Vec<_>>(), [0, 1, 2]);
-    assert_eq!((0..3).map(|row| column.row_bool(row).unwrap()).collect::<Vec<_>>(), [false, true, true]);
-    assert_eq!(column.lookup_bool(true..=true, 0..3).unwrap(), [1, 2]);
-    assert_eq!(column.lookup_bool(false..=false, 0..3).unwrap(), [0]);
-    assert_eq!(column.lookup_bool(false..=true, 0..3).unwrap(), [0, 1, 2]);
+    let stored = Column::open(&UP_TO_TWO).unwrap();
+    assert_eq!(stored.to_vec().unwrap(), [0, 1, 2]);
+    let column = stored.typed::<bool>();
+    assert_eq!(column.to_vec().unwrap(), [false, true, true]);
+    assert_eq!(column.find(true..=true, ..).unwrap(), [1, 2]);
+    assert_eq!(column.find(false..=false, ..).unwrap(), [0]);
+    assert_eq!(column.find(false..true, ..).unwrap(), [0]);
+    assert_eq!(column.find((Excluded(false), Included(true)), ..).unwrap(), [1, 2]);
+    assert_eq!(column.find(false..=true, ..).unwrap(), [0, 1, 2]);
     #[allow(clippy::reversed_empty_ranges)]
-    let none = column.lookup_bool(true..=false, 0..3).unwrap();
+    let none = column.find(true..=false, ..).unwrap();
     assert_eq!(none, []);
 }
 
 #[test]
 fn zeros_and_nans_are_found_by_their_bits() {
-    let bytes = serialize_f64(&[-0.0, 0.0, f64::NAN, -f64::NAN, f64::INFINITY], &Codec::ALL).unwrap();
-    let column = Column::open(&bytes).unwrap();
-    let find = |low, high| column.lookup_f64(low..=high, 0..5).unwrap();
+    let bytes = encode(&[-0.0, 0.0, f64::NAN, -f64::NAN, f64::INFINITY]).unwrap();
+    let column = Column::open(&bytes).unwrap().typed::<f64>();
+    let find = |low, high| column.find(low..=high, ..).unwrap();
     assert_eq!((find(0.0, 0.0), find(-0.0, -0.0), find(-0.0, 0.0)), (vec![1], vec![0], vec![0, 1]));
     assert_eq!(find(0.0, -0.0), []);
     assert_eq!((find(f64::NAN, f64::NAN), find(-f64::NAN, -f64::NAN)), (vec![2], vec![3]));
@@ -157,30 +192,32 @@ fn zeros_and_nans_are_found_by_their_bits() {
 #[test]
 #[allow(clippy::reversed_empty_ranges)]
 fn refused_rows_decide() {
-    let column = Column::open(&ROW_1_REFUSED).unwrap();
-    let refused = Refusal { number: 14, value: 1 };
-    assert_eq!((column.row_i64(1), column.row_date(1)), (Err(refused), Err(refused)));
-    assert_eq!((column.row_bool(1), column.row_f64(1).map(f64::to_bits)), (Err(refused), Err(refused)));
-    assert_eq!(column.row_i64(3), Err(Refusal { number: 12, value: 0 }));
-    assert_eq!(column.lookup_i64(1..=-1, 0..3), Err(refused));
-    assert_eq!(column.lookup_date(1..=-1, 0..3), Err(refused));
-    assert_eq!(column.lookup_bool(true..=false, 0..3), Err(refused));
-    assert_eq!(column.lookup_f64(0.0..=-0.0, 0..3), Err(refused));
-    assert_eq!(column.lookup_bool(false..=true, 2..3).unwrap(), [2]);
-    let (mut signed, mut bools, mut floats) = ([5i64; 3], [true; 3], [1.5; 3]);
-    assert_eq!(column.run_as_into(0, &mut signed), Err(refused));
-    assert_eq!(column.run_as_into(0, &mut bools), Err(refused));
-    assert_eq!(column.run_as_into(0, &mut floats), Err(refused));
-    assert_eq!((signed, bools, floats), ([5; 3], [true; 3], [1.5; 3]));
+    fn decides<T: Value>(none: std::ops::RangeInclusive<T>) {
+        let column = Column::open(&ROW_1_REFUSED).unwrap().typed::<T>();
+        let refused = Error::OutOfBounds { row: 1 };
+        assert_eq!(column.get(1).map(Value::to_stored), Err(refused));
+        assert_eq!(column.get(3).map(Value::to_stored), Err(Error::NoSuchRow));
+        assert_eq!(column.find(none, 0..3), Err(refused));
+        assert_eq!(column.find(.., 2..3).unwrap(), [2]);
+        let old = T::from_stored(u64::MAX / 3);
+        let mut list = [old; 3];
+        assert_eq!(column.read_into(0, &mut list), Err(refused));
+        assert!(list.into_iter().all(|value| value.to_stored() == old.to_stored()));
+        assert_eq!(column.to_vec().map(drop), Err(refused));
+    }
+    decides(1u64..=0);
+    decides(1i64..=-1);
+    decides(Date(1)..=Date(-1));
+    decides(true..=false);
+    decides(0.0..=-0.0);
 }
 
 #[test]
 fn writing_refuses() {
     let mut out = [9; 20];
-    let refused = |number, value| Err(Refusal { number, value });
-    assert_eq!(serialize_as_into(&[1i64, 2], &[0, 2, 3, 4], &mut out), refused(2, 2));
-    assert_eq!(serialize_as_into(&[1.5], &[1], &mut out), refused(3, 0));
-    assert_eq!(serialize_as_into(&[true], &[0], &mut out[..4]), refused(4, 5));
+    assert_eq!(raw::serialize(Kind::I64, &[1, 2], &[0, 2, 3, 4], &mut out), Err(Error::UnknownCodec { place: 2 }));
+    assert_eq!(encode_into(&[1.5], &[Codec::Linear], &mut out), Err(Error::NoCodecApplies));
+    assert_eq!(encode_into(&[true], &[Codec::Bitpacked], &mut out[..4]), Err(Error::OutputShort { needed: 5 }));
     assert_eq!(out, [9; 20]);
-    assert_eq!(serialize_as_into(&[true], &[0], &mut out), Ok(5));
+    assert_eq!(encode_into(&[true], &[Codec::Bitpacked], &mut out), Ok(5));
 }

@@ -4,6 +4,7 @@
 //!
 //! What both answer alike is counted. Every difference is put under its cause, with the smallest input met; one without a cause is an error.
 
+mod compat;
 mod lists;
 mod rust;
 mod tally;
@@ -11,14 +12,15 @@ mod typed;
 
 use std::process::ExitCode;
 
-use hulemartob::{Column, Mismatch, Refusal, check, column_stats, most_bytes, serialize_into};
+use hulemartob::{Codec, Column, Error, Kind, Mismatch, Sheet, Value, check, max_encoded_len, raw, stats};
 use lists::Random;
 use tally::{Cause, Tally};
 
 const LISTS: [&[u8]; 11] = [&[0], &[1], &[2], &[0, 1, 2], &[2, 1, 0], &[2, 0, 0], &[1, 2], &[0, 2], &[2, 0], &[1, 0], &[]];
-const BITPACKED: u64 = 0;
-const LINEAR: u64 = 1;
-const BLOCKWISE: u64 = 2;
+const BLOCKWISE: u8 = Codec::Blockwise as u8;
+
+/// A column of this library.
+type Ours<'a> = Column<u64, &'a [u8]>;
 
 /// So many rows of a damaged column are read at most: it may claim 2^32 of them.
 const READ: u32 = 1800;
@@ -28,7 +30,7 @@ fn hex(bytes: &[u8]) -> String {
 }
 
 fn compare_statistics(tally: &mut Tally, values: &[u64]) {
-    let ours = column_stats(values).map(|s| (s.minimum, s.maximum, s.gcd, s.rows));
+    let ours = stats(values).map(|s| (s.minimum, s.maximum, s.gcd, s.rows));
     let theirs = columnar::stats(values);
     if ours == Ok((theirs.min_value, theirs.max_value, theirs.gcd.get(), theirs.num_rows)) {
         tally.alike("statistics", 1);
@@ -38,14 +40,14 @@ fn compare_statistics(tally: &mut Tally, values: &[u64]) {
 }
 
 /// Writing, into an output that is just long enough; and into one that is a byte too short, which has to stay as it is.
-fn write(tally: &mut Tally, values: &[u64], codecs: &[u8]) -> Result<Vec<u8>, Refusal> {
-    let mut out = vec![0xA5; most_bytes(values.len())];
-    let length = serialize_into(values, codecs, &mut out)?;
+fn write(tally: &mut Tally, values: &[u64], codecs: &[u8]) -> Result<Vec<u8>, Error> {
+    let mut out = vec![0xA5; max_encoded_len(values.len())];
+    let length = raw::serialize(Kind::U64, values, codecs, &mut out)?;
     let behind_kept = out[length..].iter().all(|&byte| byte == 0xA5);
     out.truncate(length);
     let mut short = vec![0xA5; length - 1];
-    let refusal = serialize_into(values, codecs, &mut short);
-    let kept = refusal == Err(Refusal { number: 4, value: length as u64 }) && short.iter().all(|&byte| byte == 0xA5);
+    let refusal = raw::serialize(Kind::U64, values, codecs, &mut short);
+    let kept = refusal == Err(Error::OutputShort { needed: length }) && short.iter().all(|&byte| byte == 0xA5);
     if behind_kept && kept {
         tally.alike("outputs too short refused, with nothing else changed", 1);
     } else {
@@ -57,11 +59,13 @@ fn write(tally: &mut Tally, values: &[u64], codecs: &[u8]) -> Result<Vec<u8>, Re
 fn compare_writing(tally: &mut Tally, values: &[u64], codecs: &[u8]) -> Option<Vec<u8>> {
     let theirs = rust::write(values, codecs);
     match (write(tally, values, codecs), theirs) {
-        (Ok(ours), Ok(theirs)) if ours == theirs => {
+        (Ok(ours), Ok(theirs)) if ours == theirs && compat::write(values, codecs).as_ref() == Ok(&ours) => {
             tally.alike(format!("columns written, codec {}", ours[0]), 1);
             return Some(ours);
         }
-        (Err(Refusal { number: 3, value: 0 }), Err(rust::Failed::Error)) => tally.alike("lists that no listed codec takes", 1),
+        (Err(Error::NoCodecApplies), Err(rust::Failed::Error)) if compat::write(values, codecs) == Err(compat::Failed::Error) => {
+            tally.alike("lists that no listed codec takes", 1)
+        }
         _ => tally.differ("writing", None, values.len(), || format!("codecs {codecs:?}, {values:?}")),
     }
     None
@@ -81,43 +85,43 @@ fn head(bytes: &[u8]) -> Option<([u64; 4], usize)> {
 }
 
 /// Why the Rust opens a column that is refused here.
-fn cause_of_opening(bytes: &[u8], refusal: Refusal) -> Option<Cause> {
-    let codec = u64::from(bytes[0]);
+fn cause_of_opening(bytes: &[u8], error: Error) -> Option<Cause> {
+    let codec = bytes[0];
     let ([minimum, gcd, count, rows], next) = head(bytes)?;
     let greatest = u128::from(minimum) + u128::from(gcd) * u128::from(count);
     let footer = || {
         let (rest, long) = bytes.split_last_chunk::<4>()?;
         rest.len().checked_sub(u32::from_le_bytes(*long) as usize).filter(|&footer| next <= footer)
     };
-    match refusal.number {
-        8 if greatest >> 64 != 0 => Some(Cause::BoundsWrap),
-        8 if rows >> 32 != 0 => Some(Cause::RowsCut),
-        10 if codec != BLOCKWISE => Some(Cause::AreaShort),
-        10 if footer().is_some() => Some(Cause::AreaIntoFooter),
-        6 if codec == BLOCKWISE && (footer()?..bytes.len() - 3).contains(&(refusal.value as usize)) => Some(Cause::FieldsPastFooter),
+    match error {
+        Error::OutOfRange if greatest >> 64 != 0 => Some(Cause::BoundsWrap),
+        Error::OutOfRange if rows >> 32 != 0 => Some(Cause::RowsCut),
+        Error::AreaShort if codec != BLOCKWISE => Some(Cause::AreaShort),
+        Error::AreaShort if footer().is_some() => Some(Cause::AreaIntoFooter),
+        Error::BadField { offset } if codec == BLOCKWISE && (footer()?..bytes.len() - 3).contains(&offset) => Some(Cause::FieldsPastFooter),
         _ => None,
     }
 }
 
 /// Why the Rust answers a row that is refused here.
-fn cause_of_row(column: &Column, row: u32, ours: Result<u64, Refusal>, theirs: Result<u64, rust::Failed>) -> Option<Cause> {
-    let inside = |value| (column.min_value()..=column.max_value()).contains(&value);
+fn cause_of_row(column: &Ours, row: u32, ours: Result<u64, Error>, theirs: Result<u64, rust::Failed>) -> Option<Cause> {
+    let inside = |value| (column.minimum()..=column.maximum()).contains(&value);
     match (ours, theirs) {
-        (Err(Refusal { number: 14, value }), Ok(answer)) if value == u64::from(row) => {
+        (Err(Error::OutOfBounds { row: refused }), Ok(answer)) if refused == row => {
             // The other two multiply by the gcd modulo 2^64, which may lead back inside.
-            let outside = column.numbers()[0] != LINEAR || !inside(answer);
+            let outside = column.codec() != Codec::Linear || !inside(answer);
             outside.then_some(Cause::OutsideBounds)
         }
         _ => None,
     }
 }
 
-fn compare_rows(tally: &mut Tally, column: &Column, theirs: &rust::Opened) {
-    let rows = column.rows().min(READ);
+fn compare_rows(tally: &mut Tally, column: &Ours, theirs: &rust::Opened) {
+    let rows = column.len().min(READ);
     let bytes = column.bytes();
     let mut answers = Vec::new();
     for row in 0..rows {
-        let (ours, theirs) = (column.row(row), theirs.row(row));
+        let (ours, theirs) = (column.get(row), theirs.row(row));
         if ours.is_ok() && ours.ok() == theirs.ok() {
             answers.extend(ours);
         } else {
@@ -126,14 +130,14 @@ fn compare_rows(tally: &mut Tally, column: &Column, theirs: &rust::Opened) {
         }
     }
     tally.alike("rows", answers.len());
-    if column.row(column.rows()) != Err(Refusal { number: 12, value: 0 }) {
+    if column.get(column.len()) != Err(Error::NoSuchRow) {
         tally.differ("row behind the last", None, bytes.len(), || hex(bytes));
     }
 }
 
 /// Runs of rows: as the rows one by one answer, and as the Rust does where none is refused.
-fn compare_runs(tally: &mut Tally, random: &mut Random, column: &Column, theirs: &rust::Opened) {
-    let rows = column.rows().min(READ);
+fn compare_runs(tally: &mut Tally, random: &mut Random, column: &Ours, theirs: &rust::Opened) {
+    let rows = column.len().min(READ);
     let bytes = column.bytes();
     for _ in 0..3 {
         let any = random.below(rows as usize + 1) as u32;
@@ -142,8 +146,8 @@ fn compare_runs(tally: &mut Tally, random: &mut Random, column: &Column, theirs:
         let some = random.below(left + 1);
         let many = random.pick(&[left, some, left.min(1)]);
         let mut out = vec![u64::MAX; many];
-        let ours = column.run_into(first, &mut out).map(|_| out.clone());
-        let singly: Result<Vec<u64>, Refusal> = (first..first + many as u32).map(|row| column.row(row)).collect();
+        let ours = column.read_into(first, &mut out).map(|()| out.clone());
+        let singly: Result<Vec<u64>, Error> = (first..first + many as u32).map(|row| column.get(row)).collect();
         let untouched = ours.is_ok() || out.iter().all(|&value| value == u64::MAX);
         let same = ours.is_err() || theirs.run(first, many).as_ref() == Ok(&out);
         if ours == singly && untouched && same {
@@ -152,40 +156,40 @@ fn compare_runs(tally: &mut Tally, random: &mut Random, column: &Column, theirs:
             tally.differ("run of rows", None, bytes.len(), || format!("{} {many} rows from {first}: {ours:?}", hex(bytes)));
         }
     }
-    let behind = column.run_into(column.rows(), &mut [0]);
-    if behind != Err(Refusal { number: 12, value: 0 }) || column.run_into(column.rows(), &mut []) != Ok(0) {
+    let behind = column.read_into(column.len(), &mut [0]);
+    if behind != Err(Error::NoSuchRow) || column.read_into(column.len(), &mut []) != Ok(()) {
         tally.differ("run behind the last row", None, bytes.len(), || hex(bytes));
     }
 }
 
-fn compare_lookup(tally: &mut Tally, column: &Column, theirs: &rust::Opened, (low, high): (u64, u64), (first, end): (u32, u32)) {
-    let ours = column.lookup(low..=high, first..end);
+fn compare_lookup(tally: &mut Tally, column: &Ours, theirs: &rust::Opened, (low, high): (u64, u64), (first, end): (u32, u32)) {
+    let ours = column.find(low..=high, first..end);
     let theirs = theirs.find(low..=high, first..end);
-    let bitpacked = column.numbers()[0] == BITPACKED;
+    let bitpacked = column.codec() == Codec::Bitpacked;
     let cause = match &ours {
         Ok(found) if theirs.as_ref() == Ok(found) => return tally.alike("lookups", 1),
-        Err(Refusal { number: 14, .. }) => Some(Cause::OutsideBounds),
-        Ok(_) if bitpacked && low <= high && high < column.min_value() => Some(Cause::BelowMinimum),
-        Ok(_) if bitpacked && end > column.rows() => Some(Cause::EndNotCut),
+        Err(Error::OutOfBounds { .. }) => Some(Cause::OutsideBounds),
+        Ok(_) if bitpacked && low <= high && high < column.minimum() => Some(Cause::BelowMinimum),
+        Ok(_) if bitpacked && end > column.len() => Some(Cause::EndNotCut),
         _ => None,
     };
     let bytes = column.bytes();
     tally.differ("lookup", cause, bytes.len(), || format!("{} {low} to {high}, rows {first} to {end}: {ours:?}, {theirs:?}", hex(bytes)));
 }
 
-fn compare_lookups(tally: &mut Tally, random: &mut Random, column: &Column, theirs: &rust::Opened, values: &[u64]) {
-    let rows = column.rows().min(READ);
+fn compare_lookups(tally: &mut Tally, random: &mut Random, column: &Ours, theirs: &rust::Opened, values: &[u64]) {
+    let rows = column.len().min(READ);
     for _ in 0..3 {
         let any = random.below(rows as usize + 1) as u32;
         let first = random.pick(&[0, 0, any, u32::MAX]);
-        let end = random.pick(&[rows, rows, any, (column.rows() <= READ) as u32 * 3 + rows]);
+        let end = random.pick(&[rows, rows, any, (column.len() <= READ) as u32 * 3 + rows]);
         compare_lookup(tally, column, theirs, lists::range(random, values), (first, end));
     }
 }
 
 /// A window in a window: its run and its lookups are the Rust's at the column's rows, where none is refused; and refused rows count from its start.
-fn compare_windows(tally: &mut Tally, random: &mut Random, column: &Column, theirs: &rust::Opened, values: &[u64]) {
-    let rows = column.rows().min(READ);
+fn compare_windows(tally: &mut Tally, random: &mut Random, column: &Ours, theirs: &rust::Opened, values: &[u64]) {
+    let rows = column.len().min(READ);
     let bytes = column.bytes();
     let outer = random.below(rows as usize + 1) as u32;
     let inner = random.below((rows - outer) as usize + 1) as u32;
@@ -196,15 +200,15 @@ fn compare_windows(tally: &mut Tally, random: &mut Random, column: &Column, thei
         return tally.differ("window", None, bytes.len(), || format!("{} {many} rows from {first}: {window:?}", hex(bytes)));
     };
     let mut out = vec![0; many];
-    let ours = window.run_into(0, &mut out).map(|_| &out);
-    let here: Result<Vec<u64>, Refusal> = (first..first + many as u32)
-        .map(|row| column.row(row).map_err(|why| Refusal { value: if why.number == 14 { why.value - u64::from(first) } else { why.value }, ..why }))
-        .collect();
+    let ours = window.read_into(0, &mut out).map(|()| &out);
+    let moved = |error| if let Error::OutOfBounds { row } = error { Error::OutOfBounds { row: row - first } } else { error };
+    let here: Result<Vec<u64>, Error> = (first..first + many as u32).map(|row| column.get(row).map_err(moved)).collect();
     let (low, high) = lists::range(random, values);
-    let found = window.lookup(low..=high, 0..u32::MAX);
-    let moved = column.lookup(low..=high, first..first + many as u32).map(|rows| rows.into_iter().map(|row| row - first).collect::<Vec<_>>());
+    let found = window.find(low..=high, ..);
+    let rows = column.find(low..=high, first..first + many as u32);
+    let moved = rows.map(|rows| rows.into_iter().map(|row| row - first).collect::<Vec<_>>()).map_err(moved);
     let same = ours.is_err() || theirs.run(first, many).as_ref() == Ok(&out);
-    if ours == here.as_ref().map_err(|&why| why) && same && (found == moved || (found.is_err() && moved.is_err())) && window.row(many as u32).is_err() {
+    if ours == here.as_ref().map_err(|&why| why) && same && found == moved && window.get(many as u32).is_err() {
         tally.alike("windows in windows", 1);
     } else {
         tally.differ("window", None, bytes.len(), || format!("{} {many} rows from {first}: {here:?}, {found:?}", hex(bytes)));
@@ -214,7 +218,7 @@ fn compare_windows(tally: &mut Tally, random: &mut Random, column: &Column, thei
 fn compare_column(tally: &mut Tally, random: &mut Random, bytes: &[u8], values: &[u64], whose: &str) {
     match (Column::open(bytes), rust::open(bytes)) {
         (Ok(column), Ok(theirs)) => {
-            if theirs.head() != (column.min_value(), column.max_value(), column.rows()) {
+            if theirs.head() != (column.minimum(), column.maximum(), column.len()) {
                 return tally.differ("head", None, bytes.len(), || hex(bytes));
             }
             tally.alike(format!("{whose} columns opened"), 1);
@@ -222,28 +226,65 @@ fn compare_column(tally: &mut Tally, random: &mut Random, bytes: &[u8], values: 
             compare_runs(tally, random, &column, &theirs);
             compare_lookups(tally, random, &column, &theirs, values);
             compare_windows(tally, random, &column, &theirs, values);
+            compare_names(tally, &column, |value| value);
         }
-        (Err(refusal), Err(failed)) => {
+        _ if compat::open::<u64>(bytes).is_err_and(|failed| failed == compat::Failed::Panic) => {
+            tally.differ("a panic of opening by the crate's names", None, bytes.len(), || hex(bytes));
+        }
+        (Err(error), Err(failed)) => {
             let how = if failed == rust::Failed::Panic { "a panic" } else { "an error" };
-            tally.alike(format!("{whose} columns that neither opens: {} here, {how} there", refusal.number), 1);
+            tally.alike(format!("{whose} columns that neither opens: {} here, {how} there", error.number()), 1);
         }
-        (Err(refusal), Ok(_)) => {
-            tally.differ("opening", cause_of_opening(bytes, refusal), bytes.len(), || format!("{}: {refusal:?}", hex(bytes)));
+        (Err(error), Ok(_)) => {
+            tally.differ("opening", cause_of_opening(bytes, error), bytes.len(), || format!("{}: {error:?}", hex(bytes)));
         }
         (Ok(_), Err(failed)) => tally.differ("opening", None, bytes.len(), || format!("{} opens here, {failed:?}", hex(bytes))),
     }
 }
 
+/// A column by the crate's names over this library: each answer is that of the library's own call, and where that refuses a panic.
+fn compare_names<T>(tally: &mut Tally, column: &Column<T, &[u8]>, bits: impl Fn(T) -> u64)
+where
+    T: Value + hulemartob::compat::MonotonicallyMappableToU64,
+{
+    let bytes = column.bytes();
+    let Ok(named) = compat::open::<T>(bytes) else {
+        return tally.differ("opening by the crate's names", None, bytes.len(), || hex(bytes));
+    };
+    let rows = column.len().min(READ);
+    let mut random = Random::new(bytes.len() as u64);
+    let first = random.below(rows as usize + 1) as u32;
+    let many = random.below((rows - first) as usize + 1);
+    let of = |value: Result<T, Error>| value.map(&bits).map_err(|_| compat::Failed::Panic);
+    let of_run = |run: Vec<T>| run.into_iter().map(&bits).collect::<Vec<u64>>();
+    let (least, greatest, rows_named) = named.head();
+    let mut run = vec![T::default(); many];
+    let run = column.read_into(first, &mut run).map(|()| of_run(run)).map_err(|_| compat::Failed::Panic);
+    let (low, high) = (column.get(first).unwrap_or_default(), column.maximum());
+    let found = column.find(low..=high, first..rows).map_err(|_| compat::Failed::Panic);
+    let same = [
+        (bits(least), bits(greatest), rows_named) == (bits(column.minimum()), bits(column.maximum()), column.len()),
+        (first..rows).step_by(7).chain([column.len()]).all(|row| named.row(row).map(&bits) == of(column.get(row))),
+        named.run(first, many).map(of_run) == run,
+        named.find(low..=high, first..rows) == found,
+    ];
+    if same == [true; 4] {
+        tally.alike("columns read by the crate's names", 1);
+    } else {
+        tally.differ("reading by the crate's names", None, bytes.len(), || format!("{} {many} rows from {first}: {same:?}", hex(bytes)));
+    }
+}
+
 /// What the Rust wrote is passed for its list under both sheets, and not for another; of a damaged column that is passed the Rust reads the list too.
 fn compare_checks(tally: &mut Tally, bytes: &[u8], values: &[u64], whose: &str) {
-    let passed = [1, 2].map(|sheet| check(sheet, bytes, values));
+    let passed = Sheet::ALL.map(|sheet| check(sheet, bytes, values));
     let mut right = true;
     if whose == "written" {
         right = passed == [Ok(()), Ok(())];
         let mut other = values.to_vec();
         if let Some(value) = other.get_mut(values.len() / 2) {
             *value = value.wrapping_add(1);
-            right &= check(1, bytes, &other) == Err(Mismatch::Unequal { row: values.len() as u32 / 2 });
+            right &= check(Sheet::One, bytes, &other) == Err(Mismatch::Unequal { row: values.len() as u32 / 2 });
         }
     } else if passed[0].is_err() {
         return;

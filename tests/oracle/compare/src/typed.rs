@@ -1,14 +1,14 @@
 //! Columns of signed numbers, dates, bools and floats: the mappings alone, and through columns that both sides write and read.
 
 use columnar::{DateTime, MonotonicallyMappableToU64};
-use hulemartob::{Codec, Column, Date, Value, column_stats_as, serialize_as};
+use hulemartob::{Codec, Column, Date, Error, Value, encode_with, stats};
 
 use crate::lists::Random;
 use crate::rust;
 use crate::tally::{Cause, Tally};
 
 /// A type of values on both sides.
-trait Typed: Value {
+trait Typed: Value + hulemartob::compat::MonotonicallyMappableToU64 {
     const NAME: &'static str;
     type Theirs: MonotonicallyMappableToU64;
 
@@ -114,14 +114,12 @@ fn word_of_note(random: &mut Random) -> u64 {
     base.wrapping_add(random.pick(&[0, 1, 2, u64::MAX, u64::MAX - 1]))
 }
 
-/// One value both ways, without a column of more: it is written alone, and its stored number is the column's minimum.
+/// One value both ways.
 fn compare_mapping<T: Typed>(tally: &mut Tally, word: u64) {
     let value = T::of(word);
     let stored = value.theirs().to_u64();
-    let ours = column_stats_as(&[value]).map(|stats| stats.minimum);
-    let column = Column::from_parts(&[], [0, word, 1, 0, 1, 0, 0, 0, 0, 0, 0, 1], vec![]);
-    let read = column.row_as::<T>(0).map(T::bits);
-    if ours == Ok(stored) && read == Ok(T::their_bits(T::Theirs::from_u64(word))) {
+    let (ours, read) = (value.to_stored(), T::from_stored(word).bits());
+    if ours == stored && read == T::their_bits(T::Theirs::from_u64(word)) {
         tally.alike(format!("values mapped both ways, {}", T::NAME), 1);
     } else {
         tally.differ("mapping", None, 1, || format!("{} {word:x}: {ours:?}, {stored}; {read:?}", T::NAME));
@@ -139,7 +137,13 @@ pub fn compare_mappings(tally: &mut Tally, random: &mut Random, many: u64) {
 }
 
 /// Some lookups by values, with bounds from the list and at places of note, low above high too.
-fn compare_lookups<T: Typed>(tally: &mut Tally, random: &mut Random, column: &Column, theirs: &rust::Opened<T::Theirs>, words: &[u64]) {
+fn compare_lookups<T: Typed>(
+    tally: &mut Tally,
+    random: &mut Random,
+    column: &Column<T, &[u8]>,
+    theirs: &rust::Opened<T::Theirs>,
+    words: &[u64],
+) {
     for _ in 0..3 {
         let bound = |random: &mut Random| {
             let noted = word_of_note(random);
@@ -147,17 +151,17 @@ fn compare_lookups<T: Typed>(tally: &mut Tally, random: &mut Random, column: &Co
             T::of(random.pick(&[near, near, noted]))
         };
         let (low, high) = (bound(random), bound(random));
-        let first = random.below(column.rows() as usize + 1) as u32 / 2;
-        let ours = column.lookup_as(low..=high, first..column.rows());
-        let found = theirs.find(low.theirs()..=high.theirs(), first..column.rows());
+        let first = random.below(column.len() as usize + 1) as u32 / 2;
+        let ours = column.find(low..=high, first..);
+        let found = theirs.find(low.theirs()..=high.theirs(), first..column.len());
         let (from, to) = (low.theirs().to_u64(), high.theirs().to_u64());
         let cause = match &ours {
             Ok(rows) if found.as_ref() == Ok(rows) => {
                 tally.alike(format!("lookups of {}", T::NAME), 1);
                 continue;
             }
-            Ok(_) if column.numbers()[0] == 0 && from <= to && to < column.min_value() => Some(Cause::BelowMinimum),
-            Ok(_) if T::NAME == bool::NAME && high.bits() == 1 && column.max_value() > 1 => Some(Cause::TrueIsOne),
+            Ok(_) if column.codec() == Codec::Bitpacked && from <= to && to < column.stats().minimum => Some(Cause::BelowMinimum),
+            Ok(_) if T::NAME == bool::NAME && high.bits() == 1 && column.stats().maximum > 1 => Some(Cause::TrueIsOne),
             _ => None,
         };
         let bytes = column.bytes();
@@ -172,18 +176,20 @@ fn compare_column<T: Typed>(tally: &mut Tally, random: &mut Random, bytes: &[u8]
     let (Ok(column), Ok(theirs)) = (Column::open(bytes), rust::open::<T::Theirs>(bytes)) else {
         return tally.differ("typed opening", None, bytes.len(), || crate::hex(bytes));
     };
-    let ours: Vec<_> = (0..column.rows()).map(|row| column.row_as::<T>(row).ok().map(T::bits)).collect();
-    let rows: Vec<_> = (0..column.rows()).map(|row| theirs.row(row).ok().map(T::their_bits)).collect();
-    let run = theirs.run(0, column.rows() as usize).map(|run| run.into_iter().map(|value| Some(T::their_bits(value))).collect());
+    let column = column.typed::<T>();
+    let ours: Vec<_> = (0..column.len()).map(|row| column.get(row).ok().map(T::bits)).collect();
+    let rows: Vec<_> = (0..column.len()).map(|row| theirs.row(row).ok().map(T::their_bits)).collect();
+    let run = theirs.run(0, column.len() as usize).map(|run| run.into_iter().map(|value| Some(T::their_bits(value))).collect());
     let mut own = vec![T::of(0); rows.len()];
-    let filled = column.run_as_into(0, &mut own);
+    let filled = column.read_into(0, &mut own);
     let own: Vec<_> = own.into_iter().map(|value| Some(value.bits())).collect();
-    if ours == rows && run.as_ref() == Ok(&rows) && filled == Ok(rows.len()) && own == rows {
+    if ours == rows && run.as_ref() == Ok(&rows) && filled == Ok(()) && own == rows {
         tally.alike(format!("rows of {}", T::NAME), rows.len());
     } else {
         tally.differ("typed rows", None, bytes.len(), || format!("{} {}", crate::hex(bytes), T::NAME));
     }
     compare_lookups::<T>(tally, random, &column, &theirs, words);
+    crate::compare_names(tally, &column, T::bits);
 }
 
 /// A list as values of a type: statistics, writing by each codec and by all, and what each column reads as.
@@ -191,19 +197,19 @@ fn compare_values<T: Typed>(tally: &mut Tally, random: &mut Random, words: &[u64
     let values: Vec<T> = words.iter().map(|&word| T::of(word)).collect();
     let theirs: Vec<T::Theirs> = values.iter().map(|&value| value.theirs()).collect();
     let stored: Vec<u64> = theirs.iter().map(|&value| value.to_u64()).collect();
-    let stats = columnar::stats(&stored);
-    let ours = column_stats_as(&values).map(|s| (s.minimum, s.maximum, s.gcd, s.rows));
-    if ours != Ok((stats.min_value, stats.max_value, stats.gcd.get(), stats.num_rows)) {
+    let told = columnar::stats(&stored);
+    let ours = stats(&values).map(|s| (s.minimum, s.maximum, s.gcd, s.rows));
+    if ours != Ok((told.min_value, told.max_value, told.gcd.get(), told.num_rows)) {
         tally.differ("typed statistics", None, words.len(), || format!("{} {words:x?}", T::NAME));
     }
     for codecs in [&Codec::ALL[..1], &Codec::ALL[1..2], &Codec::ALL[2..], &Codec::ALL] {
         let codes: Vec<u8> = codecs.iter().map(|&codec| codec as u8).collect();
-        match (serialize_as(&values, codecs), rust::write(&theirs, &codes)) {
+        match (encode_with(&values, codecs), rust::write(&theirs, &codes)) {
             (Ok(ours), Ok(theirs)) if ours == theirs => {
                 tally.alike(format!("columns written of {}", T::NAME), 1);
                 compare_column::<T>(tally, random, &ours, words);
             }
-            (Err(refusal), Err(rust::Failed::Error)) if refusal.number == 3 => {}
+            (Err(Error::NoCodecApplies), Err(rust::Failed::Error)) => {}
             _ => tally.differ("typed writing", None, words.len(), || format!("{} codecs {codes:?}, {words:x?}", T::NAME)),
         }
     }

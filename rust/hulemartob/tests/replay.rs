@@ -1,6 +1,7 @@
 //! Recordings through this crate: what a replay reports, which bytes are none, and that a recording is read back as it was written.
 
-use hulemartob::{Codec, Column, Recorded, Recording, RecordingBuilder, Refusal, Replay, serialize};
+use hulemartob::raw::{Numbers, View};
+use hulemartob::{Codec, Column, Error, Recorded, Recording, RecordingBuilder, Replay, encode, encode_with};
 
 /// 10, 30, 20.
 const BITPACKED: [u8; 6] = [0x00, 0x8A, 0x8A, 0x82, 0x83, 0x18];
@@ -8,11 +9,11 @@ const BITPACKED: [u8; 6] = [0x00, 0x8A, 0x8A, 0x82, 0x83, 0x18];
 /// The same by Blockwise, with a byte changed: row 1 lies above the maximum.
 const DAMAGED: [u8; 17] = [0x02, 0x8A, 0x8A, 0x82, 0x83, 0x0C, 0x00, 0x00, 0x00, 0x00, 0x88, 0x80, 0x02, 0x07, 0x00, 0x00, 0x00];
 
-fn agree(run: u32) -> Result<Replay, Refusal> {
+fn agree(run: u32) -> Result<Replay, Error> {
     Ok(Replay { differing: None, run })
 }
 
-fn differ(index: u32) -> Result<Replay, Refusal> {
+fn differ(index: u32) -> Result<Replay, Error> {
     Ok(Replay { differing: Some(index), run: index + 1 })
 }
 
@@ -48,14 +49,14 @@ fn reports() {
 #[test]
 fn no_recording() {
     let column = Column::open(&BITPACKED).unwrap();
-    let refused = Err(Refusal { number: 19, value: 0 });
+    let refused = Err(Error::BadRecording);
     let mut cut = one(0, 2, &[0, 2]);
     cut.pop();
     for bytes in
         [vec![], vec![0; 15], cut, one(1, 2, &[0, 2]), one(u32::MAX, 2, &[0, 2]), words(&[1 << 27, 16, 0, 0]), words(&[0, 0, 1, 12])]
     {
         assert_eq!(column.replay(&bytes), refused);
-        assert!(Recording::read(&bytes).is_err());
+        assert_eq!(Recording::read(&bytes), Err(Error::BadRecording));
     }
     assert_eq!(column.replay(&[0; 16]), agree(0));
 }
@@ -64,27 +65,28 @@ fn no_recording() {
 fn refused_rows_differ() {
     let column = Column::open(&DAMAGED).unwrap();
     let mut builder = RecordingBuilder::new();
-    assert_eq!(builder.look_up(&column, 10..=10, 0..2).err(), Some(Refusal { number: 14, value: 1 }));
+    assert_eq!(builder.record(&column, 10..=10, 0..2).err(), Some(Error::OutOfBounds { row: 1 }));
     assert!(builder.is_empty());
-    assert_eq!(column.replay(&builder.push(10..=10, 0..1, &[0]).push(10..=10, 0..2, &[0]).finish()), differ(1));
+    builder.push(10..=10, 0..1, &[0]).unwrap().push(10..=10, 0..2, &[0]).unwrap();
+    assert_eq!(column.replay(&builder.finish()), differ(1));
 }
 
 #[test]
 fn a_column_of_no_parts_comes_first() {
-    let column = Column::from_parts(&BITPACKED, [3, 0, 1, 0, 0, 0, 0, 0, 0, 0, 0, 0], vec![]);
-    assert_eq!(column.replay(&[]), Err(Refusal { number: 13, value: 0 }));
+    let view = View { numbers: &Numbers { codec: 3, gcd: 1, ..Numbers::default() }, table: &[], bytes: &BITPACKED };
+    assert_eq!(view.replay(&[]), Err(Error::Unfit));
 }
 
 #[test]
 fn what_was_looked_up_agrees() {
     let values = noise(1700);
     for codec in Codec::ALL {
-        let bytes = serialize(&values, &[codec]).unwrap();
+        let bytes = encode_with(&values, &[codec]).unwrap();
         let column = Column::open(&bytes).unwrap();
         let mut builder = RecordingBuilder::new();
         for i in 0..200u32 {
             let low = u64::from(i * 37 % 1000);
-            builder.look_up(&column, low..=low + u64::from(i % 50), i * 7..i * 7 + i * 11 % 900).unwrap();
+            builder.record(&column, low..=low + u64::from(i % 50), i * 7..i * 7 + i * 11 % 900).unwrap();
         }
         let recording = builder.finish();
         assert_eq!(column.replay(&recording), agree(200));
@@ -99,7 +101,7 @@ fn what_was_looked_up_agrees() {
                 if Some(i) == at {
                     *found.last_mut().unwrap() += 1;
                 }
-                other.push(r.values, r.rows, &found);
+                other.push(r.values, r.rows, &found).unwrap();
             }
             assert_eq!(column.replay(&other.finish()), at.map_or(agree(200), |k| differ(k as u32)));
         }
@@ -107,6 +109,7 @@ fn what_was_looked_up_agrees() {
 }
 
 #[test]
+#[allow(clippy::reversed_empty_ranges)]
 fn written_and_read_back() {
     let mut builder = RecordingBuilder::new();
     let records = [
@@ -115,11 +118,28 @@ fn written_and_read_back() {
         Recorded { values: 0..=u64::MAX, rows: 0..u32::MAX, found: vec![u32::MAX, 0, 7] },
     ];
     for r in &records {
-        builder.push(r.values.clone(), r.rows.clone(), &r.found);
+        builder.push(r.values.clone(), r.rows.clone(), &r.found).unwrap();
     }
     assert_eq!(builder.len(), 3);
     let bytes = builder.finish();
     let recording = Recording::read(&bytes).unwrap();
     assert!(recording.iter().eq(records));
     assert_eq!(recording.get(3), None);
+}
+
+/// A lookup of values of a kind is recorded by stored numbers, and its rows count from a window's start.
+#[test]
+fn of_a_kind_and_through_a_window() {
+    let bytes = encode(&[-1.5, 0.0, 2.5, f64::NAN]).unwrap();
+    let column = Column::open(&bytes).unwrap().typed::<f64>();
+    let mut builder = RecordingBuilder::new();
+    builder.record(&column, 0.0..=2.5, ..).unwrap().record(&column, f64::NAN.., 1..).unwrap();
+    let recording = builder.finish();
+    let found: Vec<_> = Recording::read(&recording).unwrap().iter().map(|recorded| recorded.found).collect();
+    assert_eq!(found, [vec![1, 2], vec![3]]);
+    assert_eq!(column.replay(&recording), agree(2));
+    let window = column.window(1..).unwrap();
+    assert_eq!(window.replay(&recording), differ(0));
+    let mut builder = RecordingBuilder::new();
+    assert_eq!(window.replay(&builder.record(&window, 0.0..=2.5, ..).unwrap().finish()), agree(1));
 }

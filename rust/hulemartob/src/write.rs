@@ -1,0 +1,99 @@
+//! Writing columns, and the statistics that their heads state.
+
+use crate::{Codec, Error, Value, raw};
+
+/// Statistics of a list of values, by the numbers that they are stored as.
+#[derive(Clone, Copy, Debug, PartialEq, Eq, Hash)]
+pub struct Stats {
+    /// The least stored number, 0 where there is none.
+    pub minimum: u64,
+    /// The greatest stored number, 0 where there is none.
+    pub maximum: u64,
+    /// The gcd of how far the stored numbers lie from the first, 1 where all are equal.
+    pub gcd: u64,
+    /// How many values there are.
+    pub rows: u32,
+}
+
+impl Stats {
+    pub(crate) fn from_numbers([minimum, maximum, gcd, rows]: [u64; 4]) -> Stats {
+        Stats { minimum, maximum, gcd, rows: rows as u32 }
+    }
+}
+
+/// The statistics of a list of values. Refused 1.
+///
+/// ```
+/// let stats = hulemartob::stats(&[-10i64, 10, 0])?;
+/// assert_eq!((stats.minimum, stats.maximum, stats.gcd), ((1 << 63) - 10, (1 << 63) + 10, 10));
+/// # Ok::<(), hulemartob::Error>(())
+/// ```
+pub fn stats<T: Value>(values: &[T]) -> Result<Stats, Error> {
+    raw::stats(T::KIND, &T::words(values))
+}
+
+/// Rows in a block of a Blockwise column.
+pub(crate) const BLOCK: u32 = 512;
+
+/// Enough bytes for any column of so many rows, whatever its codec: code byte, head, a line and a width byte for each block, a footer's length, and at most
+/// eight bytes a row. No column is longer, and no output of this length is refused 4: both are proved of this number (`Reserved` and `Roomy` in
+/// crates/format/specs/Lengths).
+#[must_use]
+pub const fn max_encoded_len(rows: usize) -> usize {
+    let blocks = rows.div_ceil(BLOCK as usize);
+    let blocks = if blocks == 0 { 1 } else { blocks };
+    rows.saturating_mul(8).saturating_add(21 * blocks).saturating_add(45)
+}
+
+/// Writes a list of values as a column, by the codec whose size is least, and returns its bytes. Refused 1.
+///
+/// ```
+/// use hulemartob::{Column, encode};
+///
+/// let bytes = encode(&[20.5, -0.0, f64::INFINITY])?;
+/// let column = Column::open(&bytes)?.typed::<f64>();
+/// assert_eq!(column.get(0)?, 20.5);
+/// assert!(column.get(1)?.is_sign_negative());
+/// # Ok::<(), hulemartob::Error>(())
+/// ```
+pub fn encode<T: Value>(values: &[T]) -> Result<Vec<u8>, Error> {
+    encode_with(values, &Codec::ALL)
+}
+
+/// Writes a list of values as a column, by that of the listed codecs whose size is least, the earliest of equals, and returns its bytes. Refused 1 and 3.
+///
+/// ```
+/// use hulemartob::{Codec, Error, encode_with};
+///
+/// let bytes = encode_with(&[10u64, 30, 20], &[Codec::Bitpacked])?;
+/// assert_eq!(bytes, [0x00, 0x8A, 0x8A, 0x82, 0x83, 0x18]);
+/// // Linear asks for 512 values.
+/// assert_eq!(encode_with(&[10u64, 30, 20], &[Codec::Linear]), Err(Error::NoCodecApplies));
+/// # Ok::<(), Error>(())
+/// ```
+pub fn encode_with<T: Value>(values: &[T], codecs: &[Codec]) -> Result<Vec<u8>, Error> {
+    // Too many values are refused whatever the room is, so none is made for them.
+    let room = if u32::try_from(values.len()).is_ok() { max_encoded_len(values.len()) } else { 0 };
+    let mut out = vec![0; room];
+    let length = encode_into(values, codecs, &mut out)?;
+    out.truncate(length);
+    out.shrink_to_fit();
+    Ok(out)
+}
+
+/// Writes a list of values as a column into `out` and returns the column's length; the bytes behind it stay as they are. Refused 1, 3, and 4 with the length
+/// needed, which leaves all of `out` as it was; [`max_encoded_len`] is always enough. Bools are first copied to words; the other kinds are lent as they lie
+/// in memory.
+///
+/// ```
+/// use hulemartob::{Codec, Error, encode_into};
+///
+/// let mut out = [0xFF; 8];
+/// assert_eq!(encode_into(&[10u64, 30, 20], &Codec::ALL, &mut out[..5]), Err(Error::OutputShort { needed: 6 }));
+/// assert_eq!(encode_into(&[10u64, 30, 20], &Codec::ALL, &mut out), Ok(6));
+/// assert_eq!(out, [0x00, 0x8A, 0x8A, 0x82, 0x83, 0x18, 0xFF, 0xFF]);
+/// ```
+pub fn encode_into<T: Value>(values: &[T], codecs: &[Codec], out: &mut [u8]) -> Result<usize, Error> {
+    let codes: Vec<u8> = codecs.iter().map(|&codec| codec.into()).collect();
+    raw::serialize(T::KIND, &T::words(values), &codes, out)
+}
