@@ -12,8 +12,8 @@
  *   - the verdict on a column is the one that rows and statistics give;
  *   - what a column reads as, written again, opens under both sheets and reads as the same.
  *
- * Lent memory has exactly the length that the call is told, between two pages that nobody may touch: against the one behind it or the one before it, by choice. The
- * archive is not compiled for a sanitizer; so a byte read or written outside of what was lent is a fault even there. It is not compiled for libFuzzer's counters either:
+ * Lent memory has exactly the length that the call is told, and ends right before a page that nobody may touch, or begins right behind one, by choice: the archive is
+ * not compiled for a sanitizer, and so a byte that it reads or writes outside of what was lent is a fault all the same. Nor is it compiled for libFuzzer's counters:
  * the target counts by itself what was answered (`seen`). */
 #define _DEFAULT_SOURCE /* mmap */
 #include <hulemartob.h>
@@ -29,10 +29,6 @@
             abort(); \
         } \
     } while (0)
-
-typedef hulemartob_column column_t;
-typedef hulemartob_block block_t;
-typedef hulemartob_error error_t;
 
 /* Bytes of lent memory at most and of a page, of choices; values of a list, rows asked and blocks of a table at most. */
 enum { ROOM = 1 << 17, PAGE = 1 << 12, CHOICES = 128, LIST = 1300, SAMPLE = 700, TABLE = 1000 };
@@ -101,14 +97,14 @@ static void *lend_copy(enum slot slot, const void *from, size_t size) {
 /* Whether memory is as it was lent, from a place on. */
 static bool marked(const void *at, size_t from, size_t size) { return memcmp((const uint8_t *)at + from, marks, size - from) == 0; }
 
-static bool is(error_t error, uint64_t number, uint64_t value) { return error.number == number && error.value == value; }
-static bool equal(error_t a, error_t b) { return is(a, b.number, b.value); }
+static bool is(hulemartob_error error, uint64_t number, uint64_t value) { return error.number == number && error.value == value; }
+static bool equal(hulemartob_error a, hulemartob_error b) { return is(a, b.number, b.value); }
 
 /* ---- a column, with what it is asked with */
 
 typedef struct {
-    column_t column;
-    const block_t *table;
+    hulemartob_column column;
+    const hulemartob_block *table;
     size_t blocks;
     const uint8_t *bytes;
     size_t length;
@@ -116,7 +112,7 @@ typedef struct {
 
 #define OF(s) &(s)->column, (s)->table, (s)->blocks, (s)->bytes, (s)->length
 
-static bool is_column(const column_t *c) {
+static bool is_column(const hulemartob_column *c) {
     return c->codec <= 2 && c->rows <= UINT32_MAX && c->window_first <= UINT32_MAX && c->window_rows <= UINT32_MAX && (c->codec != 1 || c->width <= 255);
 }
 
@@ -124,7 +120,7 @@ static bool is_column(const column_t *c) {
 static uint32_t first;
 static size_t count, readable; /* `readable`: how many are read before the first that is refused */
 static uint64_t answers[SAMPLE];
-static error_t errors[SAMPLE];
+static hulemartob_error errors[SAMPLE];
 
 static void read_rows(const subject *s, int place) {
     readable = count;
@@ -137,13 +133,13 @@ static void read_rows(const subject *s, int place) {
 }
 
 /* The refusal of a walk over the sampled rows, as far as the window goes. */
-static error_t walk_error(size_t rows) {
-    error_t none = {0, 0};
+static hulemartob_error walk_error(size_t rows) {
+    hulemartob_error none = {0, 0};
     return readable < rows ? errors[readable] : none;
 }
 
 static void run_is_rows(const subject *s) {
-    error_t error, expected = walk_error(count);
+    hulemartob_error error, expected = walk_error(count);
     bool leaves = first + (uint64_t)count > s->column.window_rows;
     uint64_t *out = lend(OUT, 8 * count);
     size_t many = hulemartob_run(OF(s), first, out, count, &error);
@@ -173,7 +169,7 @@ static size_t match(size_t rows, uint64_t low, uint64_t high) {
 
 static void lookup_is_rows_filtered(const subject *s, uint64_t low, uint64_t high) {
     size_t rows = inside(s);
-    error_t error, expected = walk_error(rows);
+    hulemartob_error error, expected = walk_error(rows);
     size_t many = expected.number ? 0 : match(rows, low, high);
     for (size_t room = many ? many - 1 : 0; room <= many + 1; room++) {
         uint32_t *found = lend(FOUND, 4 * room);
@@ -191,8 +187,8 @@ static void lookup_is_rows_filtered(const subject *s, uint64_t low, uint64_t hig
 
 static void window_is_rows(const subject *s, uint32_t from, uint32_t rows) {
     subject narrowed = *s;
-    const column_t *c = &s->column;
-    error_t error;
+    const hulemartob_column *c = &s->column;
+    hulemartob_error error;
     hulemartob_narrow(&narrowed.column, from, rows, &error);
     seen(3, error.number, c->codec);
     if (from + (uint64_t)rows > c->window_rows)
@@ -205,13 +201,13 @@ static void window_is_rows(const subject *s, uint32_t from, uint32_t rows) {
         MUST(memcmp(&narrowed.column, c, sizeof *c) == 0);
         return;
     }
-    column_t expected = *c;
+    hulemartob_column expected = *c;
     if (c->codec != HULEMARTOB_CODEC_LINEAR) expected.slope = expected.intercept = expected.width = 0;
     expected.window_first += from;
     expected.window_rows = rows;
     MUST(memcmp(&narrowed.column, &expected, sizeof expected) == 0);
     for (uint32_t i = 0; i < 16; i++) {
-        error_t here, there;
+        hulemartob_error here, there;
         uint64_t value = hulemartob_row(OF(&narrowed), i, &here);
         if (i >= rows) {
             MUST(is(here, 12, 0));
@@ -254,7 +250,7 @@ static bool agrees(const subject *s, const uint8_t *at, uint64_t record) {
     const uint8_t *rows = at + number_at(at + 12, 4) + 4 * number_at(r + 24, 4);
     uint64_t many = number_at(r + 28, 4);
     static uint32_t found[4 * SAMPLE];
-    error_t error;
+    hulemartob_error error;
     size_t said = hulemartob_lookup(OF(s), number_at(r, 8), number_at(r + 8, 8), (uint32_t)number_at(r + 16, 4), (uint32_t)number_at(r + 20, 4), found,
                                     4 * SAMPLE, &error);
     if (error.number || said != many) return false;
@@ -265,7 +261,7 @@ static bool agrees(const subject *s, const uint8_t *at, uint64_t record) {
 
 static void replay_is_lookups(const subject *s, const uint8_t *recording, size_t length) {
     hulemartob_report report = {77, 78};
-    error_t error;
+    hulemartob_error error;
     hulemartob_replay(OF(s), recording, length, &report, &error);
     if (!is_recording(recording, length)) {
         MUST(is(error, 19, 0) && report.differs == 77 && report.ran == 78);
@@ -306,7 +302,7 @@ static void replays(const subject *s, input *in, uint64_t low, uint64_t high) {
     size_t length = 80 + 4 * total;
     uint8_t *recording = lend_copy(RECORDING, made, length);
     hulemartob_report report;
-    error_t error;
+    hulemartob_error error;
     hulemartob_replay(OF(s), recording, length, &report, &error);
     MUST(is(error, 0, 0) && (readable < rows ? report.differs == 0 && report.ran == 1 : report.differs == UINT64_MAX && report.ran == 2));
     for (uint64_t changes = take(in, 1) % 4; changes; changes--)
@@ -318,8 +314,8 @@ static void replays(const subject *s, input *in, uint64_t low, uint64_t high) {
 /* ---- any column, opened or made up */
 
 static void ask(const subject *s, input *in) {
-    const column_t *c = &s->column;
-    error_t error;
+    const hulemartob_column *c = &s->column;
+    hulemartob_error error;
     first = (uint32_t)(c->window_rows < UINT32_MAX ? take(in, 4) % (c->window_rows + 2) : take(in, 4));
     count = take(in, 2) % SAMPLE;
     if (count > UINT32_MAX - first) count = UINT32_MAX - first;
@@ -332,7 +328,7 @@ static void ask(const subject *s, input *in) {
     hulemartob_rows_at(OF(s), offset, &rows, &error);
     if (error.number) MUST(is(error, 13, 0) && rows.first == 1 && rows.end == 2);
     if (!is_column(c)) {
-        column_t narrowed = *c;
+        hulemartob_column narrowed = *c;
         hulemartob_report report = {1, 2};
         MUST(hulemartob_row(OF(s), first, &error) == 0 && is(error, 13, 0));
         uint64_t *out = lend(OUT, 8 * count);
@@ -368,7 +364,7 @@ static void write_back(const uint64_t *list, size_t length, uint64_t choice) {
     }
     uint64_t *values = lend_copy(VALUES, list, 8 * length);
     hulemartob_stats stats;
-    error_t error;
+    hulemartob_error error;
     hulemartob_column_stats(values, length, &stats, &error);
     MUST(is(error, 0, 0) && stats.rows == length && stats.gcd > 0);
     for (size_t i = 0; i < length; i++)
@@ -395,14 +391,14 @@ static void write_back(const uint64_t *list, size_t length, uint64_t choice) {
 
     subject s = {.bytes = out, .length = needed, .blocks = out[0] == HULEMARTOB_CODEC_BLOCKWISE ? (length + 511) / 512 : 0};
     s.table = lend(WRITTEN_BLOCKS, 32 * s.blocks);
-    MUST(hulemartob_open_under(2, out, needed, (block_t *)s.table, s.blocks, &s.column, &error) == UINT64_MAX && is(error, 0, 0));
+    MUST(hulemartob_open_under(2, out, needed, (hulemartob_block *)s.table, s.blocks, &s.column, &error) == UINT64_MAX && is(error, 0, 0));
     MUST(s.column.rows == length && s.column.minimum == stats.minimum && s.column.gcd == stats.gcd);
     MUST(s.column.minimum + s.column.gcd * s.column.count == stats.maximum);
     uint64_t *back = lend(OUT, 8 * length);
     MUST(hulemartob_run(OF(&s), 0, back, length, &error) == length && is(error, 0, 0) && memcmp(back, list, 8 * length) == 0);
     for (uint32_t sheet = 1; sheet <= 2; sheet++) {
         hulemartob_verdict verdict;
-        hulemartob_check(HULEMARTOB_KIND_U64, sheet, out, needed, values, length, (block_t *)s.table, s.blocks, &verdict, &error);
+        hulemartob_check(HULEMARTOB_KIND_U64, sheet, out, needed, values, length, (hulemartob_block *)s.table, s.blocks, &verdict, &error);
         MUST(is(error, 0, 0) && verdict.reason == HULEMARTOB_VERDICT_PASSED && verdict.first == 0 && verdict.second == 0);
     }
     seen(8, out[0], size_of(needed));
@@ -418,7 +414,7 @@ static void write_back(const uint64_t *list, size_t length, uint64_t choice) {
     s.length = needed;
     s.blocks = (length + 511) / 512;
     s.table = lend(WRITTEN_BLOCKS, 32 * s.blocks);
-    hulemartob_open(out, needed, (block_t *)s.table, s.blocks, &s.column, &error);
+    hulemartob_open(out, needed, (hulemartob_block *)s.table, s.blocks, &s.column, &error);
     MUST(is(error, 0, 0));
     for (uint32_t i = 0; i < length; i += 1 + i / 8) {
         uint64_t stored = hulemartob_row(OF(&s), i, &error);
@@ -437,7 +433,7 @@ static void write_back(const uint64_t *list, size_t length, uint64_t choice) {
 /* The parts from a byte's own on, some of them: each begins where the one before it ends, and a part is the same by its first byte and by its last. */
 static void parts_follow(const subject *s, size_t offset) {
     hulemartob_part part, last;
-    error_t error;
+    hulemartob_error error;
     size_t next = 0;
     for (int k = 0; k < 24 && offset < s->length; k++, offset = next) {
         hulemartob_part_at(&s->column, s->bytes, s->length, offset, &part, &error);
@@ -456,11 +452,11 @@ static void parts_follow(const subject *s, size_t offset) {
 
 /* With a byte of the area changed no row answers otherwise but those that own a bit of it. The sampled rows are asked. */
 static void changes_are_local(const subject *s, uint64_t choice, uint8_t change) {
-    const column_t *c = &s->column;
+    const hulemartob_column *c = &s->column;
     if (!c->size) return;
     size_t offset = c->start + choice % c->size;
     hulemartob_rows rows;
-    error_t error;
+    hulemartob_error error;
     hulemartob_rows_at(OF(s), offset, &rows, &error);
     MUST(is(error, 0, 0) && rows.first <= rows.end && rows.end <= c->rows);
     subject changed = *s;
@@ -479,13 +475,13 @@ static bool said(hulemartob_verdict verdict, uint64_t reason, uint64_t one, uint
 }
 
 /* The verdict on a list, the rows of the column being read as `rows` up to the first that is refused. */
-static void verdict_is_right(const subject *s, uint32_t sheet, error_t opening, const uint64_t *rows, size_t good, const uint64_t *list, size_t length) {
-    const column_t *c = &s->column;
+static void verdict_is_right(const subject *s, uint32_t sheet, hulemartob_error opening, const uint64_t *rows, size_t good, const uint64_t *list, size_t length) {
+    const hulemartob_column *c = &s->column;
     uint64_t *values = lend_copy(VALUES, list, 8 * length);
-    block_t *table = lend(MORE_BLOCKS, 32 * s->blocks);
+    hulemartob_block *table = lend(MORE_BLOCKS, 32 * s->blocks);
     hulemartob_verdict verdict = {77, 78, 79};
     hulemartob_stats stats;
-    error_t error;
+    hulemartob_error error;
     hulemartob_column_stats(values, length, &stats, &error);
     hulemartob_check(HULEMARTOB_KIND_F64 + 1, sheet, s->bytes, s->length, values, length, table, s->blocks, &verdict, &error);
     MUST(is(error, 13, 0) && said(verdict, 77, 78, 79) && marked(table, 0, 32 * s->blocks));
@@ -517,17 +513,17 @@ static void verdict_is_right(const subject *s, uint32_t sheet, error_t opening, 
 }
 
 /* All rows of a column that has few: the verdicts on them, and what they are written as. */
-static void whole(const subject *s, error_t under_2, input *in) {
+static void whole(const subject *s, hulemartob_error under_2, input *in) {
     static uint64_t rows[LIST], list[LIST + 1];
     size_t length = s->column.rows, good = 0;
-    error_t error = {0, 0};
+    hulemartob_error error = {0, 0};
     for (; good < length; good++) {
         rows[good] = hulemartob_row(OF(s), (uint32_t)good, &error);
         if (error.number) break;
     }
     memset(list, 0, sizeof list);
     memcpy(list, rows, 8 * good);
-    error_t none = {0, 0};
+    hulemartob_error none = {0, 0};
     verdict_is_right(s, 1, none, rows, good, list, length);
     verdict_is_right(s, 2, under_2, rows, good, list, length);
     verdict_is_right(s, 1, none, rows, good, list, length + 1);
@@ -541,7 +537,7 @@ static void whole(const subject *s, error_t under_2, input *in) {
 /* Some numbers of a column or its table replaced, and then asked. */
 static void make_up(const subject *s, input *in) {
     subject made = *s;
-    static block_t table[TABLE + 1];
+    static hulemartob_block table[TABLE + 1];
     if (s->blocks) memcpy(table, s->table, 32 * s->blocks);
     for (uint64_t changes = 1 + take(in, 1) % 3; changes; changes--) {
         uint64_t which = take(in, 1);
@@ -557,9 +553,9 @@ static void make_up(const subject *s, input *in) {
 /* Opens some bytes in every way, and asks what has opened. */
 static void open_and_ask(const uint8_t *column_bytes, size_t length, input *in) {
     uint8_t *bytes = lend_copy(BYTES, column_bytes, length);
-    column_t marks_of, column, other;
+    hulemartob_column marks_of, column, other;
     memset(&marks_of, 0xA5, sizeof marks_of);
-    error_t error, again;
+    hulemartob_error error, again;
     uint64_t choice = take(in, 1), longer;
 
     column = marks_of;
@@ -571,12 +567,12 @@ static void open_and_ask(const uint8_t *column_bytes, size_t length, input *in) 
         seen(13, 11, size_of(error.value));
         if (error.value > TABLE) return;
         blocks = error.value;
-        block_t *short_one = lend(BLOCKS, 32 * (blocks - 1));
+        hulemartob_block *short_one = lend(BLOCKS, 32 * (blocks - 1));
         hulemartob_open(bytes, length, short_one, blocks - 1, &column, &again);
         MUST(equal(error, again) && marked(short_one, 0, 32 * (blocks - 1)) && memcmp(&column, &marks_of, sizeof column) == 0);
     }
     size_t room = blocks + choice % 3;
-    block_t *table = lend(MORE_BLOCKS, 32 * room);
+    hulemartob_block *table = lend(MORE_BLOCKS, 32 * room);
     longer = hulemartob_open(bytes, length, table, room, &column, &error);
     seen(13, error.number, length ? bytes[0] : 3);
     if (error.number) {
@@ -586,12 +582,12 @@ static void open_and_ask(const uint8_t *column_bytes, size_t length, input *in) 
     } else {
         MUST(marked(table, 32 * blocks, 32 * room) && (longer == UINT64_MAX || longer < length));
     }
-    block_t *exact = lend(BLOCKS, 32 * blocks);
+    hulemartob_block *exact = lend(BLOCKS, 32 * blocks);
     other = marks_of;
     MUST(hulemartob_open_under(1, bytes, length, exact, blocks, &other, &again) == longer);
     MUST(equal(error, again) && memcmp(&column, &other, sizeof column) == 0 && (!blocks || memcmp(exact, table, 32 * blocks) == 0));
     /* Under sheet 2. */
-    block_t *stricter = lend(CHANGED, 32 * blocks);
+    hulemartob_block *stricter = lend(CHANGED, 32 * blocks);
     other = marks_of;
     uint64_t spelled = hulemartob_open_under(2, bytes, length, stricter, blocks, &other, &again);
     MUST(spelled == UINT64_MAX);
@@ -641,7 +637,7 @@ int LLVMFuzzerTestOneInput(const uint8_t *data, size_t size) {
         size_t values = make_list(&in, &body, list);
         write_back(list, values, take(&in, 1));
         uint8_t codec = (uint8_t)(how >> 2 & 3);
-        error_t error;
+        hulemartob_error error;
         if (codec == 3) codec = 0;
         length = hulemartob_serialize(list, values, &codec, 1, bytes, sizeof bytes, &error);
         if (error.number) return 0;
