@@ -1,9 +1,13 @@
 // Files that a program's arguments name.
+ghost use mathlib.Core.Path.{_≡_};
+ghost use lib.ListN.{length};
 ghost use Rattle.io.specs.Counts.{Counts};
 
 // Room for a column, and a byte more than a program takes of it, so that a longer one is told by its length. A function of its own: what calls it need not carry the
 // array's entries through its proof.
-pub fn column_room() -> [u8; 65537] {
+pub fn column_room() -> [u8; 65537]
+    ensures { λ r. ⌜ length r ≡ 65537 ⌝ }
+{
     [0u8; 65537]
 }
 

@@ -1,8 +1,8 @@
 -- The contracts determine what the calls answer and what every lent entry holds afterwards: two results that they allow coincide.
---     block-determined, open-determined, open-under-determined, row-determined, lookup-determined, run-determined, chunk-determined
+--     block-determined, open-determined, open-under-determined, row-determined, lookup-determined, run-determined
 -- Assumes nothing.
-use Prim.Native.Nat.{ℕ, _-_}
-use mathlib.Core.Path.{_≡_, sym, ap, _∙_}
+use Prim.Native.Nat.{ℕ}
+use mathlib.Core.Path.{_≡_, sym, _∙_}
 use mathlib.Core.List.{List}
 use lib.ListN.{length}
 use Rattle.format.specs.declared.Block.{Block}
@@ -14,17 +14,12 @@ use Rattle.format.specs.declared.RunRead.{RunRead}
 use Rattle.format.specs.Lookup.{lookedUp, within}
 use Rattle.format.specs.Opening.{Loaded, opened}
 use Rattle.format.specs.Outcome.{Outcome}
-use Rattle.format.specs.Reading.{columnRow, blockAt, rowAt}
+use Rattle.format.specs.Reading.{blockAt, rowAt}
 use Rattle.format.specs.Refusals.{rowMeaning}
 use Rattle.format.specs.Runs.{decoded}
 use Rattle.format.specs.Sheets.{openedUnder}
 use Rattle.format.specs.Calls.{FoundAs, RunAs, OpenedAs}
-use Rattle.format.proofs.Answers.{numbered-injective, opened-injective, row-injective, found-injective, run-injective}
-use Rattle.format.proofs.Outcomes.{not-value}
-use Rattle.chunks.specs.declared.taking.Stretch.{Stretch}
-use Rattle.chunks.specs.declared.taking.Stretch.the-variants.{Whole, Stopped}
-use Rattle.reading.specs.Chunks.{chunkSize}
-use Rattle.chunks.specs.Stretch.{counted, ended, StretchAs}
+use Rattle.format.proofs.Answers.{opened-injective, row-injective, found-injective, run-injective}
 
 -- two answers of `block_at`
 pub block-determined : (t : List Block) (k : ℕ) (a b : Block) → a ≡ blockAt t k → b ≡ blockAt t k → a ≡ b
@@ -62,19 +57,3 @@ pub run-determined : (column : Column) (table : List Block) (bytes : List ℕ) (
     → (a ≡ b) × (after ≡ after′)
 run-determined column table bytes first out a b after after′ p q =
     (run-injective a b (p .answer ∙ sym (q .answer)), p .list ∙ sym (q .list))
-
--- two answers of `chunk`, and what the lent list holds afterwards
-stretch-same : (a b : Stretch) → counted a ≡ counted b → ended a ≡ ended b → a ≡ b
-stretch-same (Whole n) (Whole m) many end = ap Whole many
-stretch-same (Whole n) (Stopped m y) many end = absurd (not-value (sym end))
-stretch-same (Stopped n x) (Whole m) many end = absurd (not-value end)
-stretch-same (Stopped n x) (Stopped m y) many end =
-    let why : x ≡ y = numbered-injective x y end in
-    λ i. Stopped (many i) (why i)
-
-pub chunk-determined : (column : Column) (table : List Block) (bytes : List ℕ) (first : ℕ) (out : List ℕ) (a b : Stretch) (after after′ : List ℕ)
-    → StretchAs (rowAt column table bytes) first (chunkSize (columnRow column first) (column .window .rows - first)) a out after
-    → StretchAs (rowAt column table bytes) first (chunkSize (columnRow column first) (column .window .rows - first)) b out after′
-    → (a ≡ b) × (after ≡ after′)
-chunk-determined column table bytes first out a b after after′ p q =
-    (stretch-same a b (p .count ∙ sym (q .count)) (p .end ∙ sym (q .end)), p .list ∙ sym (q .list))

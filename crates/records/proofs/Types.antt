@@ -35,8 +35,6 @@ use Rattle.blockwise_linear.proofs.reader.Cursor as K
 use Rattle.blockwise_linear.proofs.reader.Cursor.Laws as K′
 use Rattle.blockwise_linear.proofs.reader.Step as S
 use Rattle.blockwise_linear.proofs.reader.Step.Laws as S′
-use Rattle.chunks.proofs.taking.Stretch as T
-use Rattle.chunks.proofs.taking.Stretch.Laws as T′
 use Rattle.walks.proofs.Walk as W
 use Rattle.walks.proofs.Walk.Laws as W′
 
@@ -66,9 +64,6 @@ found = enum F.the-type F′.the-laws tt F′.the-plain
 
 abbrev pub walk : Data
 walk = struct W.the-type W′.the-laws W′.the-plain
-
-abbrev pub stretch : Data
-stretch = enum T.the-type T′.the-laws tt T′.the-plain
 
 abbrev pub cursor : Data
 cursor = struct K.the-type K′.the-laws K′.the-plain

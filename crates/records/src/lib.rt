@@ -3,7 +3,7 @@
 //
 // Only `fill` writes a table and only `block_at` reads one; the others pass it on.
 ghost use mathlib.Core.Path.{_≡_};
-ghost use Prim.Native.Nat.{_-_, _/_, _%_, _^_};
+ghost use Prim.Native.Nat.{_/_, _%_, _^_};
 ghost use lib.ListN.{length};
 ghost use Rattle.format.specs.Outcome.{stored};
 ghost use Rattle.format.specs.Refusals.{rowMeaning};
@@ -13,10 +13,7 @@ ghost use Rattle.format.specs.Lookup.{lookedUp, within};
 ghost use Rattle.format.specs.Reading.{noBlock, columnRow, blockAt, rowAt};
 ghost use Rattle.format.specs.Runs.{decoded};
 ghost use Rattle.format.specs.Calls.{OpenedAs, FoundAs, RunAs};
-ghost use Rattle.reading.specs.Chunks.{chunkSize};
-ghost use Rattle.chunks.specs.Stretch.{StretchAs};
 ghost use Rattle.blockwise_linear.specs.Reader.{firstCursor, blocksFrom, listed, Fillable};
-use chunks::taking::Stretch;
 use format::Block;
 use format::Column;
 use format::Found;
@@ -107,30 +104,6 @@ pub fn run(column: Column, table: &[Block], bytes: &[u8], first: u32, out: &mut 
         w = runs::step(column, blocks, block, bytes, w, out);
     }
     runs::answer(w)
-}
-
-// The block of a chunk that begins with a row.
-fn block_from(column: Column, first: u32) -> usize
-    ensures { λ r. ⌜ r ≡ columnRow column first % 2 ^ 32 / 512 ⌝ }
-{
-    block_of(column, WindowRow(first))
-}
-
-// The values of the window's rows from `first` to the end of its block, or of the window, up to the first that reading refuses, into the front of the lent list; how many, and that row's
-// refusal if there is one. A row that is not below the window's has none.
-pub fn chunk(
-    column: Column,
-    table: &[Block],
-    bytes: &[u8],
-    first: u32,
-    out: &mut [u64; 512],
-) -> Stretch
-    ensures { λ r. ⌜ StretchAs (rowAt column (now (table .entry)) (now (bytes .entry))) first (chunkSize (columnRow column first) (column .window .rows - first)) r (now (out .entry)) (now (out .exit)) ⌝ }
-{
-    let blocks = table.len();
-    let k = block_from(column, first);
-    let block = block_at(table, k);
-    chunks::taking::take(column, blocks, block, bytes, first, out)
 }
 
 // Internal: asks for blocks that were checked, and for room. The blocks of so many rows are put into the table, one after another.

@@ -1,2 +1,0 @@
--- the walks by hand
-pub mod Lending
