@@ -43,6 +43,7 @@
 //! # Linking
 //!
 //! `build.rs` finds the archive by HULEMARTOB_LIB, in the repository, by pkg-config, or has `rt` make it. It is x86-64 code for Linux.
+#![deny(missing_docs, unsafe_code)]
 
 mod check;
 mod codec;
