@@ -187,12 +187,31 @@ impl<T: Value, B: AsRef<[u8]>> Column<T, B> {
     /// # Ok::<(), hulemartob::Error>(())
     /// ```
     pub fn to_vec(&self) -> Result<Vec<T>, Error> {
-        let view = self.raw();
         let mut values = vec![T::default(); self.len() as usize];
-        for rows in chunks(view.numbers, 0..self.len()) {
-            read_run(view, rows.start, &mut values[rows.start as usize..rows.end as usize])?;
-        }
+        self.read_chunks(&mut values)?;
         Ok(values)
+    }
+
+    /// The values of all rows in place of those that a list holds, whose memory is used again: [`to_vec`](Column::to_vec). A refusal leaves the list empty.
+    ///
+    /// ```
+    /// use hulemartob::{Column, encode};
+    ///
+    /// let mut values = vec![7; 1000];
+    /// Column::open(encode(&[10u64, 30, 20])?)?.read_all(&mut values)?;
+    /// assert_eq!(values, [10, 30, 20]);
+    /// # Ok::<(), hulemartob::Error>(())
+    /// ```
+    pub fn read_all(&self, values: &mut Vec<T>) -> Result<(), Error> {
+        values.resize(self.len() as usize, T::default());
+        self.read_chunks(values).inspect_err(|_| values.clear())
+    }
+
+    /// All rows into a list of their number, each chunk once.
+    fn read_chunks(&self, values: &mut [T]) -> Result<(), Error> {
+        let view = self.raw();
+        chunks(view.numbers, 0..self.len())
+            .try_for_each(|rows| read_run(view, rows.start, &mut values[rows.start as usize..rows.end as usize]))
     }
 
     /// The values of all rows in turn, from either end, each as [`get`](Column::get) answers it: a refused row does not end it. They are decoded a
@@ -411,10 +430,10 @@ pub(crate) fn read_run<T: Value>(view: View<'_>, first: u32, out: &mut [T]) -> R
 
 /// Cuts rows of a window into chunks, none with rows of two blocks: the library goes over each of them once.
 pub(crate) fn chunks(numbers: &Numbers, rows: Range<u32>) -> impl Iterator<Item = Range<u32>> + use<> {
-    let (before, mut next) = (numbers.first_row % u64::from(BLOCK), rows.start);
+    let (before, mut next) = (numbers.first_row as u32, rows.start);
     std::iter::from_fn(move || {
         let first = next;
-        next = rows.end.min(first.saturating_add(BLOCK - (before as u32 + first) % BLOCK));
+        next = rows.end.min(first.saturating_add(BLOCK - before.wrapping_add(first) % BLOCK));
         (first < next).then_some(first..next)
     })
 }

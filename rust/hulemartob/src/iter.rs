@@ -39,12 +39,10 @@ impl<T: Value> Chunk<T> {
         self.rows = rows;
     }
 
+    /// The value of a row, if it was decoded.
     #[inline]
-    fn answer(&self, view: View<'_>, row: u32) -> Result<T, Error> {
-        match self.values.get((row - self.rows.start) as usize) {
-            Some(&value) => Ok(value),
-            None => view.row(row).map(T::from_stored),
-        }
+    fn value(&self, row: u32) -> Option<T> {
+        self.values.get(row.wrapping_sub(self.rows.start) as usize).copied()
     }
 }
 
@@ -53,11 +51,34 @@ impl<'a, T: Value> Iter<'a, T> {
         Iter { view, rows: 0..view.numbers.window_rows as u32, front: Chunk::NONE, back: Chunk::NONE }
     }
 
-    /// The rows still to come that lie in one block with the last of them.
-    fn last_chunk(&self) -> Range<u32> {
-        let last = self.rows.end - 1;
-        let behind = (self.view.numbers.first_row + u64::from(last)) % u64::from(BLOCK);
-        self.rows.start.max(last.saturating_sub(behind as u32))..self.rows.end
+    /// A row by itself, if it was tried to decode it with others: one of them is refused.
+    fn alone(&self, row: u32) -> Option<Result<T, Error>> {
+        let tried = self.front.rows.contains(&row) || self.back.rows.contains(&row);
+        tried.then(|| self.view.row(row).map(T::from_stored))
+    }
+
+    /// The answer of the front row, which the front chunk does not have.
+    #[cold]
+    fn next_chunk(&mut self, row: u32) -> Result<T, Error> {
+        if let Some(answer) = self.back.value(row).map(Ok).or_else(|| self.alone(row)) {
+            return answer;
+        }
+        let rows = chunks(self.view.numbers, row..self.rows.end).next().unwrap_or(row..row + 1);
+        self.front.decode(self.view, rows);
+        self.front.value(row).map_or_else(|| self.view.row(row).map(T::from_stored), Ok)
+    }
+
+    /// The answer of the back row, which the back chunk does not have.
+    #[cold]
+    fn next_chunk_back(&mut self, row: u32) -> Result<T, Error> {
+        if let Some(answer) = self.front.value(row).map(Ok).or_else(|| self.alone(row)) {
+            return answer;
+        }
+        // The rows still to come that lie in one block with the last of them.
+        let before = (self.view.numbers.first_row + u64::from(row)) % u64::from(BLOCK);
+        let first = self.rows.start.max(row.saturating_sub(before as u32));
+        self.back.decode(self.view, first..row + 1);
+        self.back.value(row).map_or_else(|| self.view.row(row).map(T::from_stored), Ok)
     }
 }
 
@@ -67,16 +88,11 @@ impl<T: Value> Iterator for Iter<'_, T> {
     #[inline]
     fn next(&mut self) -> Option<Self::Item> {
         let row = self.rows.next()?;
-        if self.back.rows.contains(&row) {
-            return Some(self.back.answer(self.view, row));
-        }
-        if !self.front.rows.contains(&row) {
-            let rows = chunks(self.view.numbers, row..self.rows.end).next()?;
-            self.front.decode(self.view, rows);
-        }
-        Some(self.front.answer(self.view, row))
+        let answer = self.front.value(row);
+        Some(answer.map_or_else(|| self.next_chunk(row), Ok))
     }
 
+    #[inline]
     fn size_hint(&self) -> (usize, Option<usize>) {
         (self.rows.len(), Some(self.rows.len()))
     }
@@ -90,20 +106,9 @@ impl<T: Value> Iterator for Iter<'_, T> {
 impl<T: Value> DoubleEndedIterator for Iter<'_, T> {
     #[inline]
     fn next_back(&mut self) -> Option<Self::Item> {
-        if self.rows.is_empty() {
-            return None;
-        }
-        let row = self.rows.end - 1;
-        let answer = if self.front.rows.contains(&row) {
-            self.front.answer(self.view, row)
-        } else {
-            if !self.back.rows.contains(&row) {
-                self.back.decode(self.view, self.last_chunk());
-            }
-            self.back.answer(self.view, row)
-        };
-        self.rows.end = row;
-        Some(answer)
+        let row = self.rows.next_back()?;
+        let answer = self.back.value(row);
+        Some(answer.map_or_else(|| self.next_chunk_back(row), Ok))
     }
 }
 

@@ -23,7 +23,7 @@
 //! # Ok::<(), hulemartob::Error>(())
 //! ```
 //!
-//! - Writing: [`encode`], [`encode_with`], [`encode_into`].
+//! - Writing: [`encode`], [`encode_with`], [`encode_into`], [`encoded_len`].
 //! - Reading: [`Column`], whose bytes are borrowed or owned; its [windows](Column::window).
 //! - Columns from other writers: what is accepted ([`Sheet`]), and whether a column holds a list of values ([`check()`]).
 //! - What each byte of a column is, and whose: [`Column::parts`], [`Column::rows_of_byte`].
@@ -43,6 +43,7 @@
 //! # Linking
 //!
 //! `build.rs` finds the archive by HULEMARTOB_LIB, in the repository, by pkg-config, or has `rt` make it. It is x86-64 code for Linux.
+#![deny(missing_docs, unsafe_code)]
 
 mod check;
 mod codec;
@@ -65,4 +66,4 @@ pub use iter::Iter;
 pub use parts::{Part, PartName, Parts};
 pub use replay::{Recorded, Recording, RecordingBuilder, Replay};
 pub use value::{Date, Kind, Value};
-pub use write::{Stats, encode, encode_into, encode_with, max_encoded_len, stats};
+pub use write::{Stats, encode, encode_into, encode_with, encoded_len, max_encoded_len, stats};

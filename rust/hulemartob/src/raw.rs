@@ -20,7 +20,7 @@
 //! # Ok::<(), Error>(())
 //! ```
 
-use crate::{Column, Error, Kind, Mismatch, ffi};
+use crate::{Codec, Column, Error, Kind, Mismatch, ffi, max_encoded_len};
 
 pub use crate::ffi::{open, serialize, stats};
 
@@ -113,6 +113,31 @@ impl<B: AsRef<[u8]>> Column<u64, B> {
         View { numbers: &numbers, table: &[], bytes: &[] }.lookup(0, 0, 0..0, &mut [])?;
         Ok(Column::of(bytes, numbers, table.as_ref().into(), None))
     }
+}
+
+/// Writes a list of words of a kind as a column, and returns its bytes: [`encode_with`](crate::encode_with).
+///
+/// ```
+/// use hulemartob::{Codec, Kind, encode, raw};
+///
+/// let kind: Kind = "f64".parse()?;
+/// let words = [20.5, -0.0].map(f64::to_bits);
+/// assert_eq!(raw::encode(kind, &words, &Codec::ALL)?, encode(&[20.5, -0.0])?);
+/// # Ok::<(), Box<dyn std::error::Error>>(())
+/// ```
+pub fn encode(kind: Kind, words: &[u64], codecs: &[Codec]) -> Result<Vec<u8>, Error> {
+    // Too many values are refused whatever the room is, so none is made for them.
+    let room = if u32::try_from(words.len()).is_ok() { max_encoded_len(words.len()) } else { 0 };
+    let mut out = vec![0; room];
+    let length = serialize(kind, words, &code_bytes(codecs), &mut out)?;
+    out.truncate(length);
+    out.shrink_to_fit();
+    Ok(out)
+}
+
+/// The code bytes of some codecs.
+pub(crate) fn code_bytes(codecs: &[Codec]) -> Vec<u8> {
+    codecs.iter().map(|&codec| codec.into()).collect()
 }
 
 /// Opens the column that `bytes` hold under an acceptance sheet, and checks it against a list of words of a kind: [`check`](crate::check()).

@@ -72,13 +72,7 @@ pub fn encode<T: Value>(values: &[T]) -> Result<Vec<u8>, Error> {
 /// # Ok::<(), Error>(())
 /// ```
 pub fn encode_with<T: Value>(values: &[T], codecs: &[Codec]) -> Result<Vec<u8>, Error> {
-    // Too many values are refused whatever the room is, so none is made for them.
-    let room = if u32::try_from(values.len()).is_ok() { max_encoded_len(values.len()) } else { 0 };
-    let mut out = vec![0; room];
-    let length = encode_into(values, codecs, &mut out)?;
-    out.truncate(length);
-    out.shrink_to_fit();
-    Ok(out)
+    raw::encode(T::KIND, &T::words(values), codecs)
 }
 
 /// Writes a list of values as a column into `out` and returns the column's length; the bytes behind it stay as they are. Refused 1, 3, and 4 with the length
@@ -94,6 +88,20 @@ pub fn encode_with<T: Value>(values: &[T], codecs: &[Codec]) -> Result<Vec<u8>, 
 /// assert_eq!(out, [0x00, 0x8A, 0x8A, 0x82, 0x83, 0x18, 0xFF, 0xFF]);
 /// ```
 pub fn encode_into<T: Value>(values: &[T], codecs: &[Codec], out: &mut [u8]) -> Result<usize, Error> {
-    let codes: Vec<u8> = codecs.iter().map(|&codec| codec.into()).collect();
-    raw::serialize(T::KIND, &T::words(values), &codes, out)
+    raw::serialize(T::KIND, &T::words(values), &raw::code_bytes(codecs), out)
+}
+
+/// How long the column is that [`encode_with`] would write. Refused 1 and 3.
+///
+/// ```
+/// use hulemartob::{Codec, encoded_len};
+///
+/// let values: Vec<u64> = (0..600).map(|i| 1000 + 7 * i).collect();
+/// assert_eq!(Codec::ALL.map(|codec| encoded_len(&values, &[codec])), [Ok(758), Ok(16), Ok(27)]);
+/// ```
+pub fn encoded_len<T: Value>(values: &[T], codecs: &[Codec]) -> Result<usize, Error> {
+    match encode_into(values, codecs, &mut []) {
+        Err(Error::OutputShort { needed }) => Ok(needed),
+        answer => answer,
+    }
 }

@@ -1,7 +1,7 @@
 //! The library through this crate: the format's worked examples, round trips, every refusal, and columns that were damaged or made up.
 
 use hulemartob::raw::{self, Block, Numbers};
-use hulemartob::{Codec, Column, Error, Kind, Line, Sheet, Stats, encode, encode_into, encode_with, max_encoded_len, stats};
+use hulemartob::{Codec, Column, Error, Kind, Line, Sheet, Stats, encode, encode_into, encode_with, encoded_len, max_encoded_len, stats};
 
 /// The rows 10, 30, 20 as a column, by the codec that is chosen and by Blockwise.
 const BITPACKED: [u8; 6] = [0x00, 0x8A, 0x8A, 0x82, 0x83, 0x18];
@@ -195,6 +195,7 @@ fn round_trips() {
                 }
                 Ok(bytes) => bytes,
             };
+            assert_eq!(encoded_len(&values, codecs), Ok(bytes.len()));
             assert!(bytes.len() <= max_encoded_len(values.len()));
             let column = Column::open(&bytes[..]).unwrap();
             assert!(codecs.contains(&column.codec()));

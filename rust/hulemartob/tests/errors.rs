@@ -57,18 +57,24 @@ fn as_the_document() {
     assert_eq!(listed, errors().into_iter().map(|(number, name, field)| (number, name, field.is_some())).collect::<Vec<_>>());
 }
 
-/// ` *     4      the output is shorter than the column      the length needed`, where 0 is no value. No call of C refuses 16 or 20.
+/// `HULEMARTOB_REFUSAL_OUTPUT_SHORT = 4, /* the length needed */`, where what stands behind the number is the value, and
+/// `case HULEMARTOB_REFUSAL_OUTPUT_SHORT: return "a sentence";`. No call of C refuses 16 or 20, which is said behind these two.
 #[test]
 fn as_the_header() {
-    let row = |line: &str| {
-        let (number, rest) = line.strip_prefix(" *")?.trim_start().split_once("      ")?;
-        let value = rest.rsplit("  ").next()?.trim();
-        Some((number.parse::<u64>().ok()?, value != "0"))
+    let camel = |name: &str| -> String {
+        let words = name.split('_').map(|word| word[..1].to_owned() + &word[1..].to_lowercase());
+        words.collect()
     };
-    let table = HEADER.split_once("refused because").expect("the table of refusals").1.split_once("*/").expect("its end").0;
-    let listed: Vec<_> = table.lines().filter_map(row).collect();
-    let told = errors().into_iter().map(|(number, _, field)| (number, field.is_some()));
-    assert_eq!(listed, told.filter(|(number, _)| ![16, 20].contains(number)).collect::<Vec<_>>());
+    let row = |line: &str| {
+        let (name, rest) = line.trim().strip_prefix("HULEMARTOB_REFUSAL_")?.split_once(" = ")?;
+        let number = rest.split([',', ' ']).next()?.parse::<u64>().ok()?;
+        let told = rest.contains("/*") && !rest.contains("no call here refuses by it");
+        let sentence = format!("case HULEMARTOB_REFUSAL_{name}: return \"");
+        assert!(HEADER.contains(&sentence), "{sentence}");
+        Some((number, camel(name), told))
+    };
+    let listed: Vec<_> = HEADER.lines().filter_map(row).filter(|&(number, ..)| number != 0).collect();
+    assert_eq!(listed, errors().into_iter().map(|(number, name, field)| (number, name, field.is_some())).collect::<Vec<_>>());
 }
 
 /// One sentence each, with the value where there is one, and the number behind it.

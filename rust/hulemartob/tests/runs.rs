@@ -126,6 +126,8 @@ fn values_in_turn() {
     assert!(rows[699].is_ok() && rows[700].is_err() && rows[701].is_ok() && rows[1100].is_err());
     assert_eq!(column.iter().rev().collect::<Vec<_>>(), rows.iter().rev().copied().collect::<Vec<_>>());
     assert_eq!(column.to_vec(), Err(Error::OutOfBounds { row: 700 }));
+    let mut list = vec![OLD; 5];
+    assert_eq!((column.read_all(&mut list), list), (Err(Error::OutOfBounds { row: 700 }), vec![]));
     assert_eq!(bytewise(&[], 0, 0, 0).iter().next(), None);
 }
 
@@ -166,6 +168,11 @@ fn chunks_answer_as_the_whole() {
         for (first, end) in [(0, 2000), (1, 1999), (511, 1025), (512, 1024), (300, 301), (1500, 1500)] {
             let window = column.window(first..end).unwrap();
             assert_eq!(window.to_vec().unwrap(), values[first as usize..end as usize]);
+            for held in [0, 100, 5000] {
+                let mut list = vec![OLD; held];
+                window.read_all(&mut list).unwrap();
+                assert_eq!(list, values[first as usize..end as usize]);
+            }
             for rows in [0..u32::MAX, 0..window.len(), 1..window.len() / 2, 600..601] {
                 let mut found = [0; 2000];
                 let many = window.raw().lookup(1000, 30_000, rows.clone(), &mut found).unwrap();

@@ -1,5 +1,8 @@
 //! Every stored answer (`tests/stored`, laid out in `tools/answers/README.md`) asked of the archive itself: its own symbols, called as C calls them, with every lent
 //! entry marked before the call. What is not proved, the compiler's back end and the calling convention, is what this tests.
+//!
+//! Every unsafe block is sound for one reason: each pointer is that of a live reference, with its own length beside it.
+#![allow(clippy::undocumented_unsafe_blocks)]
 
 use std::fs;
 use std::path::{Path, PathBuf};
@@ -158,16 +161,7 @@ fn ask_list(kind: u32, mut words: Words) {
 
     let mut out = vec![MARK as u8; room];
     let written = unsafe {
-        hulemartob_serialize_as(
-            kind,
-            values.as_ptr(),
-            values.len(),
-            codecs.as_ptr(),
-            codecs.len(),
-            out.as_mut_ptr(),
-            out.len(),
-            &mut why,
-        )
+        hulemartob_serialize_as(kind, values.as_ptr(), values.len(), codecs.as_ptr(), codecs.len(), out.as_mut_ptr(), out.len(), &mut why)
     };
     assert_eq!(why, refusal, "refusal of writing");
     let written = if why[0] == 0 { written } else { 0 };

@@ -1,5 +1,4 @@
 //! Block tables: what opening lays into a lent one, by the call of C, and what reading makes of any.
-#![allow(unsafe_code)]
 
 use hulemartob::raw::{Block, Numbers};
 use hulemartob::{Codec, Column, Error, encode_with};

@@ -93,6 +93,7 @@ fn windows_that_leave_their_column() {
         assert_eq!(made.find(.., 1..1), Ok(vec![]));
         assert_eq!(made.iter().next(), Some(refused(13, 0)));
         assert_eq!(made.iter().next_back(), Some(refused(13, 0)));
+        assert_eq!(made.iter().nth(made.len() as usize - 1), Some(refused(13, 0)));
         assert_eq!(made.window(0..0).map(drop), refused(13, 0));
     }
     for (first_row, window_rows) in [(1 << 32, 1), (0, 1 << 32)] {
