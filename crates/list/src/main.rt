@@ -4,7 +4,6 @@ ghost use lib.ListN.{length};
 ghost use Rattle.listing.specs.Chunk.{lineMax};
 ghost use Rattle.tableless.specs.Own.{Owned};
 use format::WindowRow;
-use libc::STDIN_FILENO;
 use libc::STDOUT_FILENO;
 use listing::Begun;
 use tableless::own::Own;
@@ -54,6 +53,6 @@ fn write_listing(bytes: &[u8]) {
 
 fn main() {
     let mut bytes = files::column_room();
-    let n = io::read_full(STDIN_FILENO, &mut bytes);
+    let n = files::read_input(&mut bytes);
     write_listing(&bytes[..n]);
 }
