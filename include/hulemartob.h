@@ -121,6 +121,14 @@ size_t hulemartob_lookup(const uint64_t column[12], const struct hulemartob_bloc
 size_t hulemartob_run(const uint64_t column[12], const struct hulemartob_block *table, size_t table_len, const uint8_t *bytes,
                       size_t bytes_len, uint32_t first, uint64_t *out, size_t out_len, uint64_t refusal[2]);
 
+/* Looks for the first row from `from` on whose answers differ between two opened columns, each with the table and the bytes of its opening. `difference`
+ * is now that row, then for each side, the left one first, what hulemartob_row gives there: the refusal's two numbers, and the value, 0 on refusal. Where
+ * no row differs it is UINT64_MAX and six zeros. Rows are those of the windows: one that only one window has is refused 12 by the other. Refused rows
+ * are equal if their numbers are. The columns may differ in codec. Refused 13 where twelve numbers are no column; `difference` is then as it was. */
+void hulemartob_difference(const uint64_t left[12], const struct hulemartob_block *ltable, size_t ltable_len, const uint8_t *lbytes,
+                           size_t lbytes_len, const uint64_t right[12], const struct hulemartob_block *rtable, size_t rtable_len,
+                           const uint8_t *rbytes, size_t rbytes_len, uint32_t from, uint64_t difference[7], uint64_t refusal[2]);
+
 /* ---- recorded lookups
  *
  * A recording begins with four numbers of 32 bits, little end first, as all of it is: how many records, the offset of the first, how many row numbers,

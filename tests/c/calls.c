@@ -136,6 +136,36 @@ static void other_calls(void) {
     EXPECT(refused(0, 0) && verdict[0] == HULEMARTOB_UNOPENED && verdict[1] == 11 && verdict[2] == 3 && same(lent, &mark, 1));
 }
 
+/* Two columns, by two codecs, that differ in row 1,000, in the second half of its chunk. */
+static void differences(void) {
+    static uint8_t other[20000];
+    const uint64_t nothing[7] = {UINT64_MAX}, none[12] = {3};
+    const uint8_t plain = 0;
+    uint64_t left[12], right[12], found[7];
+    size_t length = write(2);
+    block table[3];
+    hulemartob_open(bytes, length, table, 3, left, refusal);
+    values[1000] += 1;
+    size_t length2 = hulemartob_serialize(values, 1025, &plain, 1, other, sizeof other, refusal);
+    hulemartob_open(other, length2, NULL, 0, right, refusal);
+    hulemartob_difference(left, table, 3, bytes, length, right, NULL, 0, other, length2, 0, found, refusal);
+    EXPECT(refused(0, 0) && found[0] == 1000 && found[1] == 0 && found[3] == values[1000] - 1 && found[4] == 0 && found[6] == values[1000]);
+    hulemartob_difference(left, table, 3, bytes, length, right, NULL, 0, other, length2, 1001, found, refusal);
+    EXPECT(refused(0, 0) && memcmp(found, nothing, sizeof found) == 0);
+    /* Rows whose block is missing are refused 13: on one side, and on both. */
+    hulemartob_difference(left, table, 1, bytes, length, right, NULL, 0, other, length2, 0, found, refusal);
+    EXPECT(found[0] == 512 && found[1] == 13 && found[3] == 0 && found[4] == 0 && found[6] == values[512]);
+    hulemartob_difference(left, table, 1, bytes, length, left, table, 1, bytes, length, 0, found, refusal);
+    EXPECT(refused(0, 0) && memcmp(found, nothing, sizeof found) == 0);
+    /* Rows count from the windows' starts, and one of the longer window only is refused 12 by the other. */
+    hulemartob_narrow(left, 100, 925, refusal);
+    hulemartob_narrow(right, 100, 800, refusal);
+    hulemartob_difference(left, table, 3, bytes, length, right, NULL, 0, other, length2, 0, found, refusal);
+    EXPECT(found[0] == 800 && found[1] == 0 && found[3] == values[900] && found[4] == 12 && found[6] == 0);
+    hulemartob_difference(none, table, 3, bytes, length, right, NULL, 0, other, length2, 0, found, refusal);
+    EXPECT(refused(13, 0) && found[0] == 800);
+}
+
 static void typed(void) {
     const int64_t numbers[] = {-10, 10, 0};
     const double floats[] = {-0.0, 0.0, 1.5};
@@ -157,6 +187,7 @@ int main(void) {
     tables_of_any_length();
     any_record();
     other_calls();
+    differences();
     typed();
     printf("%d tried, %d not met\n", tried, failed);
     return failed != 0;
