@@ -238,6 +238,28 @@ size_t hulemartob_run(const hulemartob_column *column, const hulemartob_block *t
 size_t hulemartob_lookup(const hulemartob_column *column, const hulemartob_block *table, size_t table_len, const uint8_t *bytes, size_t bytes_len,
                          uint64_t low, uint64_t high, uint32_t first, uint32_t end, uint32_t *found, size_t found_len, hulemartob_error *error);
 
+/* What a row answers: its value, or 0 and the refusal. */
+typedef struct hulemartob_answer {
+    hulemartob_error error;
+    uint64_t value;
+} hulemartob_answer;
+HULEMARTOB_NUMBERS(hulemartob_answer, 3);
+
+/* A row at which two columns differ, with what each answers; the row UINT64_MAX where none differs. */
+typedef struct hulemartob_differing {
+    uint64_t row;
+    hulemartob_answer left;
+    hulemartob_answer right;
+} hulemartob_differing;
+HULEMARTOB_NUMBERS(hulemartob_differing, 7);
+
+/* Looks for the first row from `from` on whose answers differ between two opened columns, each with the table and the bytes of its opening. The columns may
+ * differ in codec. Rows are those of the windows: one that only one window has is refused 12 by the other. Refused rows are equal if their numbers are. Where
+ * no row differs, `differing` is UINT64_MAX and zeros. Refused 13 where numbers are no column; `differing` is then as it was. */
+void hulemartob_difference(const hulemartob_column *left, const hulemartob_block *ltable, size_t ltable_len, const uint8_t *lbytes, size_t lbytes_len,
+                           const hulemartob_column *right, const hulemartob_block *rtable, size_t rtable_len, const uint8_t *rbytes, size_t rbytes_len,
+                           uint32_t from, hulemartob_differing *differing, hulemartob_error *error);
+
 /* ---- recorded lookups
  *
  * A recording begins with four numbers of 32 bits, little end first, as all of it is: how many records, the offset of the first, how many row numbers, the
