@@ -1,6 +1,6 @@
 // Looking rows up: a walk whose first pass counts the rows in the range, and whose second stores them.
 ghost use mathlib.Core.Path.{_≡_};
-ghost use mathlib.Core.Bool.{Bool};
+ghost use mathlib.Core.Bool.{Bool, true};
 ghost use mathlib.Core.List.{List};
 ghost use Prim.Native.Nat.{ℕ, _+_, _/_, _%_, _^_, _≤_, _<_};
 ghost use lib.ListN.{length, take, set};
@@ -11,7 +11,9 @@ ghost use Rattle.format.specs.Reading.{blockAt, rowAt};
 ghost use Rattle.format.specs.Calls.{FoundAs};
 ghost use Rattle.chunks.specs.Rows.{rowsAmong};
 ghost use Rattle.finding.specs.Counts.{OutsideOf};
-ghost use Rattle.walks.specs.Walks.{Kept.rowsOf, WalkedAs, nextChunk, Going, left, Walking};
+ghost use Rattle.finding.specs.Rests.{rowsFrom, DoneAs};
+ghost use Rattle.walks.specs.declared.Walked.the-variants.{Entries};
+ghost use Rattle.walks.specs.Walks.{Kept.rowsOf, WalkedAs, nextChunk, Going, left, InPass, Walking};
 use chunks::cut;
 use format::Block;
 use format::Column;
@@ -233,8 +235,8 @@ fn step_through(
     walks::behind(w, decoded, size, n, room)
 }
 
-// Internal: asks for a lookup that is going on over rows of the window. One turn: the chunk at hand, with its block out of a table of so many.
-pub fn step(
+// Internal: asks for a lookup that is going on over rows of the window. One turn that reads the chunk at hand, with its block out of a table of so many.
+fn step_reading(
     column: Column,
     blocks: usize,
     block: Block,
@@ -261,6 +263,99 @@ pub fn step(
         &mut buffer[..size],
         found,
     )
+}
+
+// Internal: asks for a lookup that is going on. While it has found nothing, the rows done are left out of what it walks over, so that the second pass does not come back to them.
+fn trimmed(w: Walk) -> Walk
+    requires { ⌜ Going w ⌝ }
+    ensures { λ r. ⌜ Going r × (r .base ≡ w .base) × (r .end ≡ w .end) × (r .at ≡ w .at) × (left r ≤ left w) ⌝ }
+    ensures { λ r. ⌜ ((test : ℕ → Bool) (read : ℕ → Outcome ℕ) (window : Window) (o : Outcome (List ℕ)) (before list : List ℕ) → Walking (rowsOf test) read window o before w list → Walking (rowsOf test) read window o before r list) ⌝ }
+{
+    if w.storing {
+        return w;
+    }
+    if w.n != 0 {
+        return w;
+    }
+    let answer = w.answer;
+    Walk {
+        base: w.base,
+        first: w.at,
+        end: w.end,
+        at: w.at,
+        n: 0,
+        storing: false,
+        going: true,
+        answer,
+    }
+}
+
+// Internal: asks for room, and for rows below 2^32. Stores `n` rows, one after the other, the first being `row`, from entry `at` on.
+fn put_all(found: &mut [u32], at: usize, row: u32, n: usize)
+    requires { ⌜ (at + n ≤ length (now found)) × (row + n ≤ 2 ^ 32) ⌝ }
+    ensures { λ _. ⌜ now (found .exit) ≡ sets (now (found .entry)) at (rowsFrom row n) ⌝ }
+{
+    let mut i = 0;
+    while i < n {
+        found[at + i] = row + i as u32;
+        i += 1;
+    }
+}
+
+// Internal: asks for a lookup that is going on. Whether its second pass, which is to find `total` rows, is done without reading: none is left to find, or as many as there are rows left,
+// which are then stored.
+fn is_done(w: Walk, total: usize, found: &mut [u32]) -> bool
+    requires { ⌜ Going w ⌝ }
+    ensures { λ r. ⌜ ((test : ℕ → Bool) (read : ℕ → Outcome ℕ) (window : Window) (o : Outcome (List ℕ)) (before : List ℕ) → w .storing ≡ true → w .answer ≡ Entries total → InPass (rowsOf test) read window o before w (now (found .entry)) → DoneAs r o (w .answer) before (now (found .entry)) (now (found .exit))) ⌝ }
+{
+    if total <= w.n {
+        return true;
+    }
+    if total - w.n != (w.end - w.at) as usize {
+        return false;
+    }
+    if found.len() < total {
+        return false;
+    }
+    put_all(found, w.n, w.at, total - w.n);
+    true
+}
+
+// Internal: asks for a lookup that is going on. Whether it is done without reading more rows, by what its first pass counted.
+fn is_told(w: Walk, found: &mut [u32]) -> bool
+    requires { ⌜ Going w ⌝ }
+    ensures { λ r. ⌜ ((test : ℕ → Bool) (read : ℕ → Outcome ℕ) (window : Window) (o : Outcome (List ℕ)) (before : List ℕ) → InPass (rowsOf test) read window o before w (now (found .entry)) → DoneAs r o (w .answer) before (now (found .entry)) (now (found .exit))) ⌝ }
+{
+    if !w.storing {
+        return false;
+    }
+    let answer = w.answer;
+    match answer {
+        Walked::Entries(total) => is_done(w, total, found),
+        Walked::Refused(_) => false,
+    }
+}
+
+// Internal: asks for a lookup that is going on over rows of the window. One turn: the chunk at hand, with its block out of a table of so many, or all that is left, where the count tells it.
+pub fn step(
+    column: Column,
+    blocks: usize,
+    block: Block,
+    bytes: &[u8],
+    low: u64,
+    high: u64,
+    w: Walk,
+    found: &mut [u32],
+) -> Walk
+    requires { ⌜ Going w × (w .base ≡ column .window .first) × (w .end ≤ column .window .rows) ⌝ }
+    ensures { λ r. ⌜ ((table : List Block) (before : List ℕ) (o : Outcome (List ℕ)) → blocks ≡ length table → block ≡ blockAt table ((w .base + w .at) % 2 ^ 32 / 512) → Walking (rowsOf (within low high)) (rowAt column table (now (bytes .entry))) (column .window) o before w (now (found .entry)) → Walking (rowsOf (within low high)) (rowAt column table (now (bytes .entry))) (column .window) o before r (now (found .exit))) ⌝ }
+    ensures { λ r. ⌜ left r < left w ⌝ }
+{
+    if is_told(w, found) {
+        let answer = w.answer;
+        return walks::over(w, answer);
+    }
+    step_reading(column, blocks, block, bytes, low, high, trimmed(w), found)
 }
 
 // What a lookup that is over found.

@@ -6,6 +6,7 @@
 --     ended, is-passing, is-over                             the phase by what the state says
 --     left-as                                                the list, by what storing was told
 --     kept-long, passing-long, passing-run                   a lent list is as long as it was, and a run's as its rows
+--     nothing, more-stored                                   a list of no entries, and what was stored with more behind it
 -- Assumes nothing.
 use Prim.Native.Nat.{ℕ, suc, _+_, _-_, _/_, _%_, _^_, _<_, _≤_}
 use mathlib.Core.Path.{_≡_, refl, sym, ap, _∙_, subst}
@@ -22,7 +23,7 @@ use Rattle.format.specs.declared.Block.{Block}
 use Rattle.format.specs.declared.Refusal.{Refusal}
 use Rattle.format.specs.declared.Window.{Window}
 use Rattle.format.specs.declared.Refusal.the-variants.{ListShort}
-use Rattle.format.specs.Outcome.{Outcome, Outcome.value, Outcome.refusal, _>>=_, _>>_, demand, pick, stored}
+use Rattle.format.specs.Outcome.{Outcome, Outcome.value, Outcome.refusal, _>>=_, _>>_, demand, pick, howMany, stored}
 use Rattle.format.specs.Reading.{blockAt}
 use Rattle.format.specs.Refusals.{numbered, paper}
 use Rattle.format.specs.Runs.{readRun}
@@ -33,7 +34,7 @@ use Rattle.reading.specs.Chunks.{chunkSize}
 use Rattle.walks.specs.declared.Walk.{Walk}
 use Rattle.walks.specs.declared.Walked.{Walked}
 use Rattle.walks.specs.declared.Walked.the-variants.{Entries, Refused}
-use Rattle.walks.specs.Walks.{Kept, Kept.allValues, Kept.rowsOf, entries, kept, WalkedAs, nextChunk, Going, left, Single, Unrefused, InPass, Walking}
+use Rattle.walks.specs.Walks.{Kept, Kept.allValues, Kept.rowsOf, entries, kept, walkedMeaning, WalkedAs, nextChunk, Going, left, Sized, Single, Unrefused, InPass, Walking}
 use Rattle.chunks.proofs.Chunks.{chunk-to}
 use Rattle.chunks.proofs.Rows.{rows-few, rows-joined}
 
@@ -50,7 +51,7 @@ few allValues r vs = omega arith
 few (rowsOf test) r vs = rows-few test r vs
 
 -- a list of no entries
-nothing : (l : List ℕ) → length l ≡ 0 → l ≡ []
+pub nothing : (l : List ℕ) → length l ≡ 0 → l ≡ []
 nothing [] e = refl
 nothing (x ∷ l) e = absurd (omega arith)
 
@@ -133,7 +134,7 @@ sets-behind list i [] ys = ap (λ (k : ℕ). sets list k ys) (sym (add-zero i))
 sets-behind list i (x ∷ xs) ys = sets-behind (set list i x) (suc i) xs ys ∙ ap (λ (k : ℕ). sets (sets (set list i x) (suc i) xs) k ys) (suc-add i (length xs) ∙ sym (add-suc i (length xs)))
 
 -- what was stored before, and a chunk more
-more-stored : (t : Bool) (before list us vs : List ℕ) (n : ℕ) → n ≡ length us → list ≡ pick t (sets before 0 us) before → pick t (sets list n vs) list ≡ pick t (sets before 0 (us ++ vs)) before
+pub more-stored : (t : Bool) (before list us vs : List ℕ) (n : ℕ) → n ≡ length us → list ≡ pick t (sets before 0 us) before → pick t (sets list n vs) list ≡ pick t (sets before 0 (us ++ vs)) before
 more-stored true before list us vs n long e = rw (e, long) (sym (sets-behind before 0 us vs ∙ ap (λ (i : ℕ). sets (sets before 0 us) i vs) (zero-add (length us))))
 more-stored false before list us vs n long e = e
 
@@ -141,6 +142,11 @@ more-stored false before list us vs n long e = e
 held : (t : Bool) (number : ℕ) (also xs found : List ℕ) → (demand t number also >> value xs) ≡ value found → (demand t number also >> value xs) ≡ value xs
 held true number also xs found e = refl
 held false number also xs found e = absurd (not-value e)
+
+-- a second pass has its answer, be it counted or not asked for
+counted : (k : Kept) (rows room : ℕ) (t : Bool) (a b : Walked) (o : Outcome (List ℕ)) → Sized k rows room t a o → walkedMeaning b ≡ howMany o → Sized k rows room true b o
+counted allValues rows room t a b o f e = f
+counted (rowsOf test) rows room t a b o f e = λ s. e
 
 module _ (k : Kept) (read : ℕ → Outcome ℕ) {window : Window} {o : Outcome (List ℕ)} {before list : List ℕ} {w : Walk} (f : InPass k read window o before w list) (size : ℕ) (chunk : size ≡ nextChunk w) where
   -- the chunk comes behind the rows done
@@ -165,9 +171,9 @@ module _ (k : Kept) (read : ℕ → Outcome ℕ) {window : Window} {o : Outcome 
     stored-so-far : pick (w .storing) (sets list (w .n) (entries k (w .at) vs)) list ≡ pick (w .storing) (sets before 0 (entries k (w .first) (f .values ++ vs))) before
     stored-so-far = rw all-entries (more-stored (w .storing) before list (entries k (w .first) (f .values)) (entries k (w .at) vs) (w .n) (f .count) (f .list-is))
 
-    pub goes-on : w .at + size < w .end → (a : Walked)
-        → InPass k read window o before (record { base = w .base; first = w .first; end = w .end; at = w .at + size; n = w .n + n; storing = w .storing; going = true; answer = a }) (pick (w .storing) (sets list (w .n) (entries k (w .at) vs)) list)
-    goes-on h a =
+    pub goes-on : w .at + size < w .end
+        → InPass k read window o before (record { base = w .base; first = w .first; end = w .end; at = w .at + size; n = w .n + n; storing = w .storing; going = true; answer = w .answer }) (pick (w .storing) (sets list (w .n) (entries k (w .at) vs)) list)
+    goes-on h =
         let far : w .at + size - w .first ≡ (w .at - w .first) + size = omega (arith, f .going .from) in
         let most : n ≤ size = omega (arith, m, few k (w .at) vs, run-long read (w .at) size vs run) in
         record {
@@ -229,23 +235,24 @@ module _ (k : Kept) (read : ℕ → Outcome ℕ) {window : Window} {o : Outcome 
             let is : o ≡ value [] = all-kept (omega arith) ∙ ap value (nothing _ (sym all-count ∙ h)) in
             record { answer = rw is refl; list = untouched ∙ rw is refl }
 
-        pub turns-over : w .n + n ≤ length before → (a : Walked)
-            → InPass k read window o before (record { base = w .base; first = w .first; end = w .end; at = w .first; n = 0; storing = true; going = true; answer = a }) (pick (w .storing) (sets list (w .n) (entries k (w .at) vs)) list)
+        pub turns-over : w .n + n ≤ length before
+            → InPass k read window o before (record { base = w .base; first = w .first; end = w .end; at = w .first; n = 0; storing = true; going = true; answer = Entries (w .n + n) }) (pick (w .storing) (sets list (w .n) (entries k (w .at) vs)) list)
         unfolding readRun
-        turns-over h a =
+        turns-over h =
+            let is : o ≡ value (entries k (w .first) (f .values ++ vs)) = all-kept h in
             let none-done : w .first - w .first ≡ 0 = omega arith in
             let empty : entries k (w .first) [] ≡ [] = nothing _ (omega (arith, few k (w .first) [])) in
             record {
               going = record { on = refl; from = omega arith; to = omega (arith, f .going .from, f .going .to); few = omega arith };
               based = f .based;
               inside = f .inside;
-              sized = f .sized;
+              sized = counted k (w .end - w .first) (length before) (w .storing) (w .answer) (Entries (w .n + n)) o (f .sized) (ap value all-count ∙ rw is refl);
               asked = f .asked;
               values = [];
               sofar = rw none-done;
               count = rw empty refl;
               list-is = untouched ∙ rw empty refl;
-              clean = λ s. inr (record { found = entries k (w .first) (f .values ++ vs); is = all-kept h });
+              clean = λ s. inr (record { found = entries k (w .first) (f .values ++ vs); is = is });
             }
 
   -- ---- at a refused row
