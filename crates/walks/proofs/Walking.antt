@@ -1,10 +1,11 @@
 -- A walk under way: how it goes on behind a chunk, and ends. Over any reading.
 --     chunk-based, block-based                               the chunk at hand and its block, as the column counts
 --     goes-on, turns-over, all-stored, too-short, none-found behind a chunk
+--     has-room                                               for the chunk's entries, where the pass stores
 --     refuses                                                at a refused row
 --     falls-looking, falls-on, falls-over                    what is left
 --     ended, is-passing, is-over                             the phase by what the state says
---     left-as                                                the list, by what storing was told
+--     left-as, stores-whole                                  the list, by what storing was told, and what that tells of the chunk
 --     kept-long, passing-long, passing-run                   a lent list is as long as it was, and a run's as its rows
 --     nothing, more-stored                                   a list of no entries, and what was stored with more behind it
 -- Assumes nothing.
@@ -18,7 +19,7 @@ use native.Mathlib.Omega.{arith}
 use lib.Dec.{leb}
 use lib.ListN.{length, set, length-append}
 use lib.Seq.{sets, length-sets}
-use borrow.Author.Tests.{le-leb, lt-leb}
+use borrow.Author.Tests.{le-leb, lt-leb, leb-true}
 use Rattle.format.specs.declared.Block.{Block}
 use Rattle.format.specs.declared.Refusal.{Refusal}
 use Rattle.format.specs.declared.Window.{Window}
@@ -27,14 +28,16 @@ use Rattle.format.specs.Outcome.{Outcome, Outcome.value, Outcome.refusal, _>>=_
 use Rattle.format.specs.Reading.{blockAt}
 use Rattle.format.specs.Refusals.{numbered, paper}
 use Rattle.format.specs.Runs.{readRun}
-use Rattle.format.proofs.Outcomes.{not-value}
+use Rattle.format.proofs.Outcomes.{not-value, value-same, by-step, by-demand}
 use Rattle.format.proofs.Runs.{run-long, run-after, run-refused}
 use Rattle.format.proofs.Tests.{when, unless, as-unless}
+use Rattle.reading.specs.declared.reader.Decoded.{Decoded}
+use Rattle.reading.specs.declared.reader.Decoded.the-variants.{Whole, Refused as NotDecoded}
 use Rattle.reading.specs.Chunks.{chunkSize}
 use Rattle.walks.specs.declared.Walk.{Walk}
 use Rattle.walks.specs.declared.Walked.{Walked}
 use Rattle.walks.specs.declared.Walked.the-variants.{Entries, Refused}
-use Rattle.walks.specs.Walks.{Kept, Kept.allValues, Kept.rowsOf, entries, kept, walkedMeaning, WalkedAs, nextChunk, Going, left, Sized, Single, Unrefused, InPass, Walking}
+use Rattle.walks.specs.Walks.{Kept, Kept.allValues, Kept.rowsOf, entries, kept, walkedMeaning, WalkedAs, nextChunk, Going, left, stores, Sized, Single, Unrefused, InPass, Walking}
 use Rattle.chunks.proofs.Chunks.{chunk-to}
 use Rattle.chunks.proofs.Rows.{rows-few, rows-joined}
 
@@ -106,6 +109,11 @@ pub left-as : {k : Kept} {read : ℕ → Outcome ℕ} {window : Window} {o : Out
     → Walking k read window o before w (pick t xs ys) → Walking k read window o before w list
 left-as xs ys e told f = rw (e, told) f
 
+-- a chunk that is stored has its values
+pub stores-whole : (w : Walk) (d : Decoded) → stores w d ≡ true → (d ≡ Whole) × (w .storing ≡ true)
+stores-whole w Whole e = (refl, e)
+stores-whole w (NotDecoded x) e = let z : _≡_ {A = ℕ} 0 1 = cc in absurd (omega arith)
+
 -- a lent list is as long as it was
 stored-long : (o : Outcome (List ℕ)) (list : List ℕ) → length (stored o list) ≡ length list
 stored-long (value xs) list = length-sets list 0 xs
@@ -170,6 +178,26 @@ module _ (k : Kept) (read : ℕ → Outcome ℕ) {window : Window} {o : Outcome 
 
     stored-so-far : pick (w .storing) (sets list (w .n) (entries k (w .at) vs)) list ≡ pick (w .storing) (sets before 0 (entries k (w .first) (f .values ++ vs))) before
     stored-so-far = rw all-entries (more-stored (w .storing) before list (entries k (w .first) (f .values)) (entries k (w .at) vs) (w .n) (f .count) (f .list-is))
+
+    -- a pass that stores has room for the chunk's entries
+    pub has-room : w .storing ≡ true → w .n + n ≤ length before
+    has-room e =
+        let to = chunk-to (w .base + w .at) (w .at) (w .end) size (f .going .to) chunk in
+        let far : w .end - w .first ≡ ((w .at - w .first) + size) + (w .end - (w .at + size)) = omega (arith, f .going .from, to) in
+        ⊎-elim
+        (λ (one : Single (length before) w).
+        omega (arith, one .begins, one .enough, to, f .count, few k (w .first) (f .values), run-long read (w .first) (w .at - w .first) (f .values) (f .sofar), m, few k (w .at) vs, run-long read (w .at) size vs run))
+        (λ (good : Unrefused o).
+        by-step (readRun read (w .first) (w .end - w .first)) (kept k (length before) (w .first)) (sym (f .asked) ∙ good .is)
+        (λ us all kept-is.
+        by-demand (leb (length (entries k (w .first) us)) (length before)) 15 (length (entries k (w .first) us) ∷ []) (value (entries k (w .first) us)) kept-is
+        (λ fits same.
+        by-step (readRun read (w .first + ((w .at - w .first) + size)) (w .end - (w .at + size))) (λ (l : List ℕ). value ((f .values ++ vs) ++ l))
+        (sym (run-after read (w .first) ((w .at - w .first) + size) (w .end - (w .at + size)) (f .values ++ vs) longer) ∙ ap (readRun read (w .first)) (sym far) ∙ all)
+        (λ ws later is.
+        let parts : entries k (w .first) us ≡ entries k (w .first) (f .values ++ vs) ++ entries k (w .first + length (f .values ++ vs)) ws = ap (entries k (w .first)) (sym (value-same is)) ∙ joined k (w .first) (f .values ++ vs) ws in
+        omega (arith, all-count, ap length parts, length-append (entries k (w .first) (f .values ++ vs)) (entries k (w .first + length (f .values ++ vs)) ws), leb-true (length (entries k (w .first) us)) (length before) fits)))))
+        (f .clean e)
 
     pub goes-on : w .at + size < w .end
         → InPass k read window o before (record { base = w .base; first = w .first; end = w .end; at = w .at + size; n = w .n + n; storing = w .storing; going = true; answer = w .answer }) (pick (w .storing) (sets list (w .n) (entries k (w .at) vs)) list)
