@@ -1,12 +1,13 @@
 -- What is left of a lookup under way, as far as its count tells it without reading. Over any reading and any test.
 --     fill-more, fill-ends        storing rows one after the other, as if they were copied
---     trims, trims-left           while nothing is found, the rows done are left out
+--     trims, trims-left           while nothing is found, the rows done are left out, and a single chunk is stored at once
 --     told-done, told-all         a second pass that has found all, and one that finds all rows left
 --     is-done, not-done           what a test of that says
 -- Assumes nothing.
-use Prim.Native.Nat.{ℕ, zero, suc, _+_, _-_, _<_, _≤_}
+use Prim.Native.Nat.{ℕ, zero, suc, _+_, _-_, _%_, _<_, _≤_}
 use mathlib.Core.Path.{_≡_, refl, sym, ap, _∙_}
 use mathlib.Core.Bool.{Bool, true, false}
+use mathlib.Core.Logic.{inl}
 use mathlib.Core.List.{List, [], _∷_, _++_}
 use native.Mathlib.Nat.{add-zero}
 use native.Mathlib.Numerals.{add-one}
@@ -63,6 +64,11 @@ unfolding rowsAmong rowsFrom
 all-pass test r [] e = refl
 all-pass test r (v ∷ vs) e = by-test (test v) r (rowsAmong test (r + 1) vs) (length vs) (rows-few test (r + 1) vs) (λ all. all-pass test (r + 1) vs all ∙ ap (λ (k : ℕ). rowsFrom k (length vs)) (add-one r)) e
 
+-- no entries stored leave a list as it was, in either pass
+nothing-stored : (t : Bool) (list : List ℕ) → list ≡ pick t (sets list 0 []) list
+nothing-stored true list = refl
+nothing-stored false list = refl
+
 -- ---- a lookup in a pass
 
 module _ (test : ℕ → Bool) (read : ℕ → Outcome ℕ) {window : Window} {o : Outcome (List ℕ)} {before list : List ℕ} {w : Walk} (f : InPass (rowsOf test) read window o before w list) where
@@ -91,21 +97,22 @@ module _ (test : ℕ → Bool) (read : ℕ → Outcome ℕ) {window : Window} {o
     same-walk room (value us) = rw (from-here us)
     same-walk room (refusal number also) = refl
 
-    pub trims : w .storing ≡ false → InPass (rowsOf test) read window o before (record { base = w .base; first = w .at; end = w .end; at = w .at; n = 0; storing = false; going = true; answer = w .answer }) list
+    pub trims : (t : Bool) → w .storing ≡ false → (t ≡ true → (w .end - w .at ≤ 512 - (w .base + w .at) % 512) × (w .end - w .at ≤ length before))
+        → InPass (rowsOf test) read window o before (record { base = w .base; first = w .at; end = w .end; at = w .at; n = 0; storing = t; going = true; answer = w .answer }) list
     unfolding readRun rowsAmong
-    trims e =
+    trims t e single =
         let none-done : w .at - w .at ≡ 0 = omega arith in
         record {
           going = record { on = refl; from = omega arith; to = f .going .to; few = omega arith };
           based = f .based;
           inside = f .inside;
-          sized = λ (s : false ≡ true). let z : _≡_ {A = ℕ} 0 1 = cc in absurd (omega arith);
+          sized = λ (s : t ≡ true) many. absurd (omega (arith, single s .0));
           asked = f .asked ∙ ap (λ (p : Outcome (List ℕ)). p >>= kept (rowsOf test) (length before) (w .first)) all-rows ∙ same-walk (length before) (readRun read (w .at) (w .end - w .at));
           values = [];
           sofar = rw none-done;
           count = refl;
-          list-is = f .list-is ∙ rw e refl;
-          clean = λ (s : false ≡ true). let z : _≡_ {A = ℕ} 0 1 = cc in absurd (omega arith);
+          list-is = f .list-is ∙ ap (λ (x : Bool). pick x (sets before 0 (rowsAmong test (w .first) (f .values))) before) e ∙ nothing-stored t before;
+          clean = λ (s : t ≡ true). inl (record { begins = refl; one = single s .0; enough = single s .1 });
         }
 
   -- ---- how many are found is known
@@ -117,9 +124,9 @@ module _ (test : ℕ → Bool) (read : ℕ → Outcome ℕ) {window : Window} {o
     pub is : o ≡ value (rowsAmong test (w .first) (f .values) ++ rowsAmong test (w .at) values)
     pub sum : total ≡ w .n + length (rowsAmong test (w .at) values)
 
-  module _ (total : ℕ) (storing : w .storing ≡ true) (answer : w .answer ≡ Entries total) where
+  module _ (total : ℕ) (storing : w .storing ≡ true) (many : 512 < w .end - w .first) (answer : w .answer ≡ Entries total) where
     known : value total ≡ howMany o
-    known = ap walkedMeaning (sym answer) ∙ f .sized storing
+    known = ap walkedMeaning (sym answer) ∙ f .sized storing many
 
     rest : Rest total
     rest =
@@ -148,7 +155,7 @@ module _ (test : ℕ → Bool) (read : ℕ → Outcome ℕ) {window : Window} {o
         more-stored true before list us (rowsAmong test (w .at) (rest .values)) (w .n) (f .count) (f .list-is ∙ ap (λ (t : Bool). pick t (sets before 0 us) before) storing)
 
     finds : WalkedAs o (w .answer) before (sets list (w .n) (rowsAmong test (w .at) (rest .values)))
-    finds = record { answer = f .sized storing; list = stored-all ∙ sym (ap (λ (x : Outcome (List ℕ)). stored x before) (rest .is)) }
+    finds = record { answer = f .sized storing many; list = stored-all ∙ sym (ap (λ (x : Outcome (List ℕ)). stored x before) (rest .is)) }
 
     pub told-done : total ≤ w .n → WalkedAs o (w .answer) before list
     told-done h = let z : rowsAmong test (w .at) (rest .values) ≡ [] = nothing _ (omega (arith, rest .sum)) in rw z at finds
@@ -160,8 +167,12 @@ module _ (test : ℕ → Bool) (read : ℕ → Outcome ℕ) {window : Window} {o
         rw all at finds
 
 -- no more is left where they are left out
-pub trims-left : (w : Walk) → Going w → w .storing ≡ false → (w .end - w .at) + (w .end - w .at) ≤ left w
-trims-left w g e = rw (g .on, e) (omega (arith, g .from))
+pub trims-left : (w : Walk) → Going w → w .storing ≡ false → (t : Bool) → pick t (w .end - w .at) ((w .end - w .at) + (w .end - w .at)) ≤ left w
+trims-left w g e t = rw (g .on, e) (by-pass t)
+  where
+    by-pass : (t : Bool) → pick t (w .end - w .at) ((w .end - w .at) + (w .end - w .at)) ≤ (w .end - w .first) + (w .end - w .at)
+    by-pass true = omega (arith, g .from)
+    by-pass false = omega (arith, g .from)
 
 -- ---- what a test says
 

@@ -2,7 +2,7 @@
 ghost use mathlib.Core.Path.{_≡_};
 ghost use mathlib.Core.Bool.{Bool, true};
 ghost use mathlib.Core.List.{List};
-ghost use Prim.Native.Nat.{ℕ, _+_, _/_, _%_, _^_, _≤_, _<_};
+ghost use Prim.Native.Nat.{ℕ, _+_, _-_, _/_, _%_, _^_, _≤_, _<_};
 ghost use lib.ListN.{length, take};
 ghost use lib.Seq.{sets};
 ghost use Rattle.format.specs.Outcome.{Outcome, pick};
@@ -235,11 +235,24 @@ fn step_reading(
     )
 }
 
-// Internal: asks for a lookup that is going on. While it has found nothing, the rows done are left out of what it walks over, so that the second pass does not come back to them.
-fn trimmed(w: Walk) -> Walk
+// Internal: asks for a lookup that is going on. Whether the rows left lie in one chunk, and a list with so much room has an entry for each.
+fn is_single(w: Walk, room: usize) -> bool
+    requires { ⌜ Going w ⌝ }
+    ensures { λ r. ⌜ (r ≡ true → (w .end - w .at ≤ 512 - (w .base + w .at) % 512) × (w .end - w .at ≤ room)) ⌝ }
+{
+    let rows = (w.end - w.at) as usize;
+    if walks::chunk_of(w) < rows {
+        return false;
+    }
+    rows <= room
+}
+
+// Internal: asks for a lookup that is going on. While it has found nothing, the rows done are left out of what it walks over, so that the second pass does not come back to them; and where the rows left lie in one chunk,
+// there is no second pass: they are stored as they are found.
+fn trimmed(w: Walk, room: usize) -> Walk
     requires { ⌜ Going w ⌝ }
     ensures { λ r. ⌜ Going r × (r .base ≡ w .base) × (r .end ≡ w .end) × (r .at ≡ w .at) × (left r ≤ left w) ⌝ }
-    ensures { λ r. ⌜ ((test : ℕ → Bool) (read : ℕ → Outcome ℕ) (window : Window) (o : Outcome (List ℕ)) (before list : List ℕ) → Walking (rowsOf test) read window o before w list → Walking (rowsOf test) read window o before r list) ⌝ }
+    ensures { λ r. ⌜ ((test : ℕ → Bool) (read : ℕ → Outcome ℕ) (window : Window) (o : Outcome (List ℕ)) (before list : List ℕ) → room ≡ length before → Walking (rowsOf test) read window o before w list → Walking (rowsOf test) read window o before r list) ⌝ }
 {
     if w.storing {
         return w;
@@ -248,13 +261,14 @@ fn trimmed(w: Walk) -> Walk
         return w;
     }
     let answer = w.answer;
+    let storing = is_single(w, room);
     Walk {
         base: w.base,
         first: w.at,
         end: w.end,
         at: w.at,
         n: 0,
-        storing: false,
+        storing,
         going: true,
         answer,
     }
@@ -276,7 +290,7 @@ fn put_all(found: &mut [u32], at: usize, row: u32, n: usize)
 // which are then stored.
 fn is_done(w: Walk, total: usize, found: &mut [u32]) -> bool
     requires { ⌜ Going w ⌝ }
-    ensures { λ r. ⌜ ((test : ℕ → Bool) (read : ℕ → Outcome ℕ) (window : Window) (o : Outcome (List ℕ)) (before : List ℕ) → w .storing ≡ true → w .answer ≡ Entries total → InPass (rowsOf test) read window o before w (now (found .entry)) → DoneAs r o (w .answer) before (now (found .entry)) (now (found .exit))) ⌝ }
+    ensures { λ r. ⌜ ((test : ℕ → Bool) (read : ℕ → Outcome ℕ) (window : Window) (o : Outcome (List ℕ)) (before : List ℕ) → w .storing ≡ true → 512 < w .end - w .first → w .answer ≡ Entries total → InPass (rowsOf test) read window o before w (now (found .entry)) → DoneAs r o (w .answer) before (now (found .entry)) (now (found .exit))) ⌝ }
 {
     if total <= w.n {
         return true;
@@ -291,12 +305,15 @@ fn is_done(w: Walk, total: usize, found: &mut [u32]) -> bool
     true
 }
 
-// Internal: asks for a lookup that is going on. Whether it is done without reading more rows, by what its first pass counted.
+// Internal: asks for a lookup that is going on. Whether it is done without reading more rows, by what its first pass counted; of one over at most 512 rows this is not asked.
 fn is_told(w: Walk, found: &mut [u32]) -> bool
     requires { ⌜ Going w ⌝ }
     ensures { λ r. ⌜ ((test : ℕ → Bool) (read : ℕ → Outcome ℕ) (window : Window) (o : Outcome (List ℕ)) (before : List ℕ) → InPass (rowsOf test) read window o before w (now (found .entry)) → DoneAs r o (w .answer) before (now (found .entry)) (now (found .exit))) ⌝ }
 {
     if !w.storing {
+        return false;
+    }
+    if w.end - w.first <= 512 {
         return false;
     }
     let answer = w.answer;
@@ -325,7 +342,17 @@ pub fn step(
         let answer = w.answer;
         return walks::over(w, answer);
     }
-    step_reading(column, blocks, block, bytes, low, high, trimmed(w), found)
+    let room = found.len();
+    step_reading(
+        column,
+        blocks,
+        block,
+        bytes,
+        low,
+        high,
+        trimmed(w, room),
+        found,
+    )
 }
 
 // What a lookup that is over found.

@@ -154,7 +154,7 @@ held false number also xs found e = absurd (not-value e)
 -- a second pass has its answer, be it counted or not asked for
 counted : (k : Kept) (rows room : ℕ) (t : Bool) (a b : Walked) (o : Outcome (List ℕ)) → Sized k rows room t a o → walkedMeaning b ≡ howMany o → Sized k rows room true b o
 counted allValues rows room t a b o f e = f
-counted (rowsOf test) rows room t a b o f e = λ s. e
+counted (rowsOf test) rows room t a b o f e = λ s many. e
 
 module _ (k : Kept) (read : ℕ → Outcome ℕ) {window : Window} {o : Outcome (List ℕ)} {before list : List ℕ} {w : Walk} (f : InPass k read window o before w list) (size : ℕ) (chunk : size ≡ nextChunk w) where
   -- the chunk comes behind the rows done

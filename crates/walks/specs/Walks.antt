@@ -76,10 +76,10 @@ abbrev pub stores : Walk → Decoded → Bool
 stores w Whole = w .storing
 stores w (NotDecoded x) = false
 
--- the sizes that are known: the list of a run is as long as its rows, and a lookup that stores has its answer, since it has counted
+-- the sizes that are known: the list of a run is as long as its rows, and a lookup over more than 512 rows that stores has its answer, since it has counted
 abbrev pub Sized : Kept → (rows room : ℕ) (storing : Bool) (answer : Walked) (o : Outcome (List ℕ)) → Type 0
 Sized allValues rows room storing answer o = room ≡ rows
-Sized (rowsOf test) rows room storing answer o = storing ≡ true → walkedMeaning answer ≡ howMany o
+Sized (rowsOf test) rows room storing answer o = storing ≡ true → 512 < rows → walkedMeaning answer ≡ howMany o
 
 -- it lies in one chunk, at its beginning, and a list of such a length has room for an entry a row
 pub record Single (room : ℕ) (w : Walk) : Type 0 where

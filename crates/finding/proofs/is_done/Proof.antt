@@ -6,7 +6,7 @@ use Rattle.finding.proofs.is_done.Statement.{statement}
 use Rattle.finding.proofs.is_done.Tie as tie
 
 returns : tie.Need-returns
-returns c = λ test read window o before storing answer f. record { either = told-done test read f _ storing answer (c .if1 .taken) }
+returns c = λ test read window o before storing many answer f. record { either = told-done test read f _ storing many answer (c .if1 .taken) }
 
 sub-if2 : tie.Need-sub-if2
 sub-if2 c = search needs
@@ -36,7 +36,7 @@ returns-4 : tie.Need-returns-4
 returns-4 c =
     let p = c .before .before in
     let e = p .before .before .before .before in
-    λ test read window o before storing answer f. record { either = rw (p .put-all .ensures) (told-all test read f _ storing answer (e .if2 .left)) }
+    λ test read window o before storing many answer f. record { either = rw (p .put-all .ensures) (told-all test read f _ storing many answer (e .if2 .left)) }
 
 pub is-done-spec : {M : Type 1} → statement M
 is-done-spec =

@@ -1,14 +1,15 @@
 -- `finding::step` meets its contract: the rest is told, or the chunk at hand is read.
 -- Assumes nothing.
 use Prim.Native.Nat.{ℕ}
-use mathlib.Core.Path.{sym, subst}
+use mathlib.Core.Path.{sym, subst, ap}
 use mathlib.Core.List.{List}
 use native.Mathlib.Omega.{arith}
 use denote.Ref.{now}
+use lib.ListN.{length}
 use Rattle.format.specs.Lookup.{within}
 use Rattle.format.specs.Reading.{rowAt}
 use Rattle.walks.specs.Walks.{Kept.rowsOf, Walking}
-use Rattle.walks.proofs.Walking.{ended, is-passing, falls-over}
+use Rattle.walks.proofs.Walking.{ended, is-passing, passing-long, falls-over}
 use Rattle.finding.proofs.Rests.{is-done, not-done}
 use borrow.Author.Needs.{needs}
 use Rattle.finding.proofs.step.Statement.{statement}
@@ -59,9 +60,10 @@ returns-2 c =
     let test = within (a .low) (a .high) in (
       (λ table before o number block f.
           let read = rowAt (a .column) table (now (a .bytes)) in
-          let same = not-done (t .is-told .ensures test read (a .column .window) o before (is-passing f (s .pre .0 .on))) (e .if1 .left) in
+          let g = is-passing f (s .pre .0 .on) in
+          let same = not-done (t .is-told .ensures test read (a .column .window) o before g) (e .if1 .left) in
           r .step-reading .ensures .0 table before o number (rw (m .trimmed .ensures .0 .1, m .trimmed .ensures .0 .3) block)
-          (m .trimmed .ensures .1 test read (a .column .window) o before _ (subst (λ (l : List ℕ). Walking (rowsOf test) read (a .column .window) o before (a .w) l) (sym same) f))),
+          (m .trimmed .ensures .1 test read (a .column .window) o before _ (omega (arith, passing-long g, ap length same)) (subst (λ (l : List ℕ). Walking (rowsOf test) read (a .column .window) o before (a .w) l) (sym same) f))),
       omega (arith, r .step-reading .ensures .1, m .trimmed .ensures .0 .4),
     )
 

@@ -7,7 +7,6 @@ use native.Mathlib.Omega.{arith}
 use denote.Ref.{now}
 use lib.ListN.{length, take}
 use lib.Seq.{sets, length-take-le}
-use Rattle.format.specs.Lookup.{within}
 use Rattle.format.specs.Word.{AllBelow}
 use Rattle.finding.proofs.Scans.{rows-below}
 use borrow.Author.Needs.{needs}
@@ -41,10 +40,9 @@ copy-rows-requires c κs =
     let t = c .before .before in
     let k = t .before .before .before in
     let g = k .gather-rows .ensures in
-    let s = entry k in
-    let a = s .args in (
+    let s = entry k in (
       has-front _ _ _ _ (omega (arith, g .0, k .gather-rows .kept)) (t .if1 .taken),
-      subst (AllBelow (2 ^ 32)) (sym (g .1)) (rows-below (within (a .low) (a .high)) (a .row) (now (a .values)) (2 ^ 32) (s .pre .0)),
+      subst (AllBelow (2 ^ 32)) (sym (g .1)) (rows-below _ _ _ _ (s .pre .0)),
     )
 
 same-length : tie.Need-same-length
