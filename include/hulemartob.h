@@ -185,6 +185,10 @@ int64_t hulemartob_i64_of(uint64_t stored);
 bool hulemartob_bool_of(uint64_t stored);
 uint64_t hulemartob_f64_bits_of(uint64_t stored);
 
+/* The same of a list of stored numbers, such as a run's: each becomes the word of the value that it reads as, by the table above, and a bool's
+ * 0 or 1. Never refused: where the number is no kind, the list is unchanged. */
+void hulemartob_values_as(uint32_t kind, uint64_t *list, size_t list_len);
+
 /* The first and the last stored number of the values from `low` to `high`, for hulemartob_lookup: of signed numbers or dates, of bools,
  * of floats by their bits. Where low is above high so are the stored numbers, and nothing lies between them. Never refused. */
 void hulemartob_i64_range(int64_t low, int64_t high, uint64_t range[2]);
@@ -301,12 +305,12 @@ static inline size_t hulemartob_lookup_f64(const uint64_t column[12], const stru
     return hulemartob_lookup(column, table, table_len, bytes, bytes_len, range[0], range[1], first, end, found, found_len, refusal);
 }
 
-/* Runs: decoded in place, then read. (Bools take less room than words: decode words, and read each by hulemartob_bool_of.) */
+/* Runs: decoded in place, then read. (Bools take less room than words: decode words, and read them by hulemartob_values_as.) */
 static inline size_t hulemartob_run_i64(const uint64_t column[12], const struct hulemartob_block *table, size_t table_len,
                                         const uint8_t *bytes, size_t bytes_len, uint32_t first, int64_t *out, size_t out_len,
                                         uint64_t refusal[2]) {
     size_t many = hulemartob_run(column, table, table_len, bytes, bytes_len, first, (uint64_t *)out, out_len, refusal);
-    for (size_t i = 0; i < many; i++) out[i] = hulemartob_i64_of((uint64_t)out[i]);
+    hulemartob_values_as(HULEMARTOB_I64, (uint64_t *)out, many);
     return many;
 }
 
@@ -314,12 +318,7 @@ static inline size_t hulemartob_run_f64(const uint64_t column[12], const struct 
                                         const uint8_t *bytes, size_t bytes_len, uint32_t first, double *out, size_t out_len,
                                         uint64_t refusal[2]) {
     size_t many = hulemartob_run(column, table, table_len, bytes, bytes_len, first, (uint64_t *)(void *)out, out_len, refusal);
-    for (size_t i = 0; i < many; i++) {
-        uint64_t word;
-        memcpy(&word, &out[i], sizeof word);
-        word = hulemartob_f64_bits_of(word);
-        memcpy(&out[i], &word, sizeof word);
-    }
+    hulemartob_values_as(HULEMARTOB_F64, (uint64_t *)(void *)out, many);
     return many;
 }
 

@@ -137,6 +137,8 @@ unsafe extern "C" {
 
     safe fn hulemartob_f64_bits_of(stored: u64) -> u64;
 
+    fn hulemartob_values_as(kind: u32, list: *mut u64, list_len: usize);
+
     fn hulemartob_i64_range(low: i64, high: i64, range: *mut [u64; 2]);
 
     fn hulemartob_bool_range(low: bool, high: bool, range: *mut [u64; 2]);
@@ -378,6 +380,12 @@ pub(crate) fn bool_of(stored: u64) -> bool {
 #[inline]
 pub(crate) fn f64_bits_of(stored: u64) -> u64 {
     hulemartob_f64_bits_of(stored)
+}
+
+/// The values that stored numbers of a kind read as, in their place, as words.
+pub(crate) fn values_as(kind: Kind, list: &mut [u64]) {
+    // SAFETY: the list is lent for the call alone, with its length.
+    unsafe { hulemartob_values_as(kind as u32, list.as_mut_ptr(), list.len()) }
 }
 
 /// The stored numbers of the signed numbers from low to high.

@@ -88,7 +88,7 @@ impl sealed::Stored for i64 {
     }
 
     fn run(column: &Column, first: u32, out: &mut [i64]) -> Result<usize, Refusal> {
-        run_in_place(column, first, ffi::words_mut(out), |stored| ffi::i64_of(stored) as u64)
+        run_in_place(column, first, Self::KIND, ffi::words_mut(out))
     }
 }
 
@@ -108,7 +108,7 @@ impl sealed::Stored for Date {
     }
 
     fn run(column: &Column, first: u32, out: &mut [Date]) -> Result<usize, Refusal> {
-        run_in_place(column, first, ffi::words_mut(out), |stored| ffi::i64_of(stored) as u64)
+        run_in_place(column, first, Self::KIND, ffi::words_mut(out))
     }
 }
 
@@ -129,9 +129,9 @@ impl sealed::Stored for bool {
 
     fn run(column: &Column, first: u32, out: &mut [bool]) -> Result<usize, Refusal> {
         let mut words = vec![0; out.len()];
-        let many = column.run_into(first, &mut words)?;
-        for (value, stored) in out.iter_mut().zip(words) {
-            *value = ffi::bool_of(stored);
+        let many = run_in_place(column, first, Self::KIND, &mut words)?;
+        for (value, word) in out.iter_mut().zip(words) {
+            *value = word != 0;
         }
         Ok(many)
     }
@@ -153,16 +153,14 @@ impl sealed::Stored for f64 {
     }
 
     fn run(column: &Column, first: u32, out: &mut [f64]) -> Result<usize, Refusal> {
-        run_in_place(column, first, ffi::words_mut(out), ffi::f64_bits_of)
+        run_in_place(column, first, Self::KIND, ffi::words_mut(out))
     }
 }
 
-/// A run of rows, each value then read in its place.
-fn run_in_place(column: &Column, first: u32, out: &mut [u64], read: impl Fn(u64) -> u64) -> Result<usize, Refusal> {
+/// A run of rows, whose values are then read in their place.
+fn run_in_place(column: &Column, first: u32, kind: Kind, out: &mut [u64]) -> Result<usize, Refusal> {
     let many = column.run_into(first, out)?;
-    for word in out {
-        *word = read(*word);
-    }
+    ffi::values_as(kind, out);
     Ok(many)
 }
 
