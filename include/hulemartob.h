@@ -362,6 +362,10 @@ int64_t hulemartob_i64_of(uint64_t stored);
 bool hulemartob_bool_of(uint64_t stored);
 uint64_t hulemartob_f64_bits_of(uint64_t stored);
 
+/* The same of a list of stored numbers, such as a run's, in one call: each becomes the word of the value that it reads as, a bool's 0 or 1. Never refused: where
+ * the number is no kind, the list is unchanged. */
+void hulemartob_values_as(uint32_t kind, uint64_t *list, size_t list_len);
+
 /* Stored numbers from `low` to `high`, both included. */
 typedef struct hulemartob_range {
     uint64_t low;

@@ -459,6 +459,22 @@ static void differences(void) {
     EXPECT(refused(13, 0) && found.row == 800);
 }
 
+/* A list of stored numbers read by each kind; where the number is no kind it stays. */
+static void lists_by_kind(void) {
+    const uint64_t stored[3] = {0, (uint64_t)1 << 63, UINT64_MAX};
+    const uint64_t read[5][3] = {{0, (uint64_t)1 << 63, UINT64_MAX},
+                                 {(uint64_t)1 << 63, 0, INT64_MAX},
+                                 {(uint64_t)1 << 63, 0, INT64_MAX},
+                                 {0, 1, 1},
+                                 {UINT64_MAX, 0, INT64_MAX}};
+    for (uint32_t kind = 0; kind < 6; kind++) {
+        uint64_t list[3];
+        memcpy(list, stored, sizeof list);
+        hulemartob_values_as(kind, list, 3);
+        EXPECT(memcmp(list, kind < 5 ? read[kind] : stored, sizeof list) == 0);
+    }
+}
+
 int main(void) {
     tables_of_any_length();
     any_record();
@@ -473,5 +489,6 @@ int main(void) {
     parts();
     verdicts();
     differences();
+    lists_by_kind();
     return ended();
 }

@@ -48,6 +48,7 @@ unsafe extern "C" {
     safe fn hulemartob_i64_of(stored: u64) -> i64;
     safe fn hulemartob_bool_of(stored: u64) -> bool;
     safe fn hulemartob_f64_bits_of(stored: u64) -> u64;
+    fn hulemartob_values_as(kind: u32, list: *mut u64, list_len: usize);
     safe fn hulemartob_i64_range(low: i64, high: i64, range: &mut [u64; 2]);
     safe fn hulemartob_bool_range(low: bool, high: bool, range: &mut [u64; 2]);
     safe fn hulemartob_f64_range(low: u64, high: u64, range: &mut [u64; 2]);
@@ -202,6 +203,12 @@ pub(crate) fn bool_of(stored: u64) -> bool {
 #[inline]
 pub(crate) fn f64_bits_of(stored: u64) -> u64 {
     hulemartob_f64_bits_of(stored)
+}
+
+/// Makes words of stored numbers, in their place: the words of the values that they read as.
+pub(crate) fn values_as(kind: Kind, list: &mut [u64]) {
+    // SAFETY: lent.
+    unsafe { hulemartob_values_as(kind as u32, list.as_mut_ptr(), list.len()) }
 }
 
 /// The first and the last stored number of the signed numbers from low to high.
