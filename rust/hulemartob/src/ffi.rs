@@ -11,7 +11,7 @@ use std::ops::Range;
 use std::slice;
 
 use crate::raw::{Block, Numbers, View};
-use crate::{Date, Error, Kind, Part, Replay, Stats};
+use crate::{Date, Difference, Error, Kind, Part, Replay, Stats};
 
 /// A refusal's number, 0 for none, and the value that it also returns.
 type Refusal = [u64; 2];
@@ -38,6 +38,9 @@ unsafe extern "C" {
         low: u64, high: u64, first: u32, end: u32, found: *mut u32, found_len: usize, refusal: &mut Refusal) -> usize;
     fn hulemartob_replay(column: &Numbers, table: *const Block, table_len: usize, bytes: *const u8, bytes_len: usize,
         recording: *const u8, recording_len: usize, report: &mut [u64; 2], refusal: &mut Refusal);
+    fn hulemartob_difference(left: &Numbers, ltable: *const Block, ltable_len: usize, lbytes: *const u8, lbytes_len: usize,
+        right: &Numbers, rtable: *const Block, rtable_len: usize, rbytes: *const u8, rbytes_len: usize,
+        from: u32, differing: &mut [u64; 7], refusal: &mut Refusal);
     fn hulemartob_part_at(column: &Numbers, bytes: *const u8, bytes_len: usize, offset: usize, part: &mut [u64; 5], refusal: &mut Refusal);
     fn hulemartob_rows_at(column: &Numbers, table: *const Block, table_len: usize, bytes: *const u8, bytes_len: usize,
         offset: usize, rows: &mut [u64; 2], refusal: &mut Refusal);
@@ -185,6 +188,39 @@ impl View<'_> {
         }
         answer(refusal, rows[0] as u32..rows[1] as u32)
     }
+
+    /// The first row from `from` on whose answers differ between this column and another, with both, or none. Refused 13 if numbers are no column.
+    pub fn difference(self, other: View<'_>, from: u32) -> Result<Option<Difference>, Error> {
+        let View { numbers, table, bytes } = self;
+        let View { numbers: others, table: blocks, bytes: against } = other;
+        let (mut differing, mut refusal) = ([0; 7], [0; 2]);
+        // SAFETY: lent.
+        unsafe {
+            hulemartob_difference(
+                numbers,
+                table.as_ptr(),
+                table.len(),
+                bytes.as_ptr(),
+                bytes.len(),
+                others,
+                blocks.as_ptr(),
+                blocks.len(),
+                against.as_ptr(),
+                against.len(),
+                from,
+                &mut differing,
+                &mut refusal,
+            );
+        }
+        let [row, number, also, value, others_number, others_also, others_value] = differing;
+        let found = Difference { row: row as u32, left: told(number, also, value), right: told(others_number, others_also, others_value) };
+        answer(refusal, (row != u64::MAX).then_some(found))
+    }
+}
+
+/// What a row answered, by the refusal's two numbers and the value.
+fn told(number: u64, also: u64, value: u64) -> Result<u64, Error> {
+    answer([number, also], value)
 }
 
 /// What a stored number reads as: a signed number.
