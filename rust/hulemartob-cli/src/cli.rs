@@ -164,6 +164,9 @@ pub struct Compare {
     pub left: PathBuf,
     /// Another
     pub right: PathBuf,
+    /// Of folders, take only files with this extension
+    #[arg(short, long = "extension", value_name = "EXT")]
+    pub extensions: Vec<String>,
     /// Of folders, only say which columns differ
     #[arg(long)]
     pub brief: bool,

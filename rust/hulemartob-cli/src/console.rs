@@ -99,7 +99,7 @@ pub fn progress(columns: usize, quiet: bool) -> ProgressBar {
     }
     // Where standard error is no terminal nothing is drawn.
     let bar = ProgressBar::with_draw_target(Some(columns as u64), ProgressDrawTarget::stderr_with_hz(10));
-    match ProgressStyle::with_template("{bar:32.green} {pos}/{len} columns, {per_sec}, {eta} left") {
+    match ProgressStyle::with_template("{bar:32.green} {pos}/{len} columns, {eta} left") {
         Ok(style) => bar.with_style(style),
         Err(_) => bar,
     }

@@ -1,5 +1,6 @@
 //! Files and folders.
 
+use std::ffi::OsStr;
 use std::fs::File;
 use std::io::{self, ErrorKind, Read};
 use std::ops::Deref;
@@ -70,6 +71,12 @@ pub fn read_both(left: &Path, right: &Path) -> Result<(Bytes, Bytes)> {
         bail!("standard input can stand for one file only");
     }
     Ok((read(left)?, read(right)?))
+}
+
+/// Whether a file has one of some extensions, which may be given with their dot; any does if there are none.
+pub fn has_extension(path: &Path, extensions: &[String]) -> bool {
+    let matches = |has: &OsStr| extensions.iter().any(|extension| has == extension.trim_start_matches('.'));
+    extensions.is_empty() || path.extension().is_some_and(matches)
 }
 
 /// A file to be judged.

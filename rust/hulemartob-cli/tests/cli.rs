@@ -461,6 +461,10 @@ fn folders_compared() {
         "{\"left\":20,\"right\":40,\"row\":2,\"type\":\"row\"}\n{\"lines\":1,\"type\":\"summary\"}\n",
     );
     assert_eq!(folder.run("compare l l/same").0, 2);
+    folder.put("l/c.col", &sound).put("r/c.col", &sound);
+    folder.expect("compare -e col l r", 0, "columns 1 differing 0 alone 0\n");
+    fs::remove_file(folder.0.join("l/c.col")).unwrap();
+    fs::remove_file(folder.0.join("r/c.col")).unwrap();
     fs::create_dir(folder.0.join("empty")).unwrap();
     assert_eq!(folder.run("compare empty empty"), (2, String::new(), "hulemartob: no columns found\n".into()));
     // A file that cannot be read is trouble; the others are compared.

@@ -6,7 +6,7 @@ use anyhow::{Result, bail};
 use hulemartob::Kind;
 
 use crate::cli;
-use crate::sources::Found;
+use crate::sources::{self, Found};
 use crate::values::{self, Values};
 
 /// Extensions that are tried below --against where --values names none.
@@ -32,7 +32,7 @@ impl Lists {
 
     /// Whether a file beside columns is a list and no column.
     pub fn is_list(&self, path: &Path) -> bool {
-        self.folder.is_none() && path.extension().is_some_and(|has| self.extensions.iter().any(|e| has == e.as_str()))
+        self.folder.is_none() && sources::has_extension(path, &self.extensions)
     }
 
     /// The list of a column: NAME.EXT with the column's whole name, or with its own extension replaced.

@@ -29,11 +29,8 @@ pub fn run(args: &cli::Bless) -> Result<Status> {
     let start = Instant::now();
     let lists = Lists::new(args);
     let asked = Asked { sheet: args.sheet, choice: args.choice || lists.is_some(), max_rows: args.max_rows };
-    let wanted = |path: &Path| {
-        let listed =
-            |extensions: &[String]| path.extension().is_some_and(|has| extensions.iter().any(|e| has == e.trim_start_matches('.')));
-        (args.extensions.is_empty() || listed(&args.extensions)) && !lists.as_ref().is_some_and(|lists| lists.is_list(path))
-    };
+    let is_list = |path: &Path| lists.as_ref().is_some_and(|lists| lists.is_list(path));
+    let wanted = |path: &Path| sources::has_extension(path, &args.extensions) && !is_list(path);
     let (files, troubles) = sources::gather(&args.paths, wanted);
     let mut summary = Summary { lists: lists.is_some(), ..Summary::default() };
     for trouble in &troubles {
@@ -75,7 +72,7 @@ pub fn run(args: &cli::Bless) -> Result<Status> {
     }
     out.flush()?;
     if let Some(path) = &args.html {
-        page::write(path, &files, &kept)?;
+        page::write(path, &files, &kept, lists.is_some())?;
     }
     Ok(summary.status())
 }

@@ -82,7 +82,7 @@ fn pairs(args: &cli::Compare) -> Result<(Vec<Pair>, Status)> {
     let mut pairs: BTreeMap<PathBuf, [Option<PathBuf>; 2]> = BTreeMap::new();
     let mut status = Status::Good;
     for (side, folder) in [&args.left, &args.right].into_iter().enumerate() {
-        let (files, troubles) = sources::gather(std::slice::from_ref(folder), |_| true);
+        let (files, troubles) = sources::gather(std::slice::from_ref(folder), |path| sources::has_extension(path, &args.extensions));
         for trouble in troubles {
             complain(&trouble);
             status = Status::Trouble;

@@ -31,6 +31,8 @@ const WINDOW_ALONE: usize = 64 << 10;
 #[derive(Serialize)]
 struct Data {
     tool: &'static str,
+    /// Whether the rows were held against lists.
+    lists: bool,
     files: Vec<Row>,
     details: BTreeMap<usize, Detail>,
 }
@@ -56,7 +58,7 @@ struct Row {
 impl Row {
     fn new(path: &Path, judgement: &Judgement) -> Row {
         Row {
-            p: path.display().to_string(),
+            p: path.to_string_lossy().into_owned(),
             v: judgement.verdict,
             n: judgement.refusal,
             c: judgement.codec,
@@ -69,7 +71,7 @@ impl Row {
 }
 
 /// Writes the page of some columns and their verdicts.
-pub fn write(out: &Path, files: &[Found], judgements: &[Judgement]) -> Result<()> {
+pub fn write(out: &Path, files: &[Found], judgements: &[Judgement], lists: bool) -> Result<()> {
     let mut details = BTreeMap::new();
     for (exact, budget) in [(false, BUDGET), (true, BUDGET_EXACT)] {
         let mut left = budget;
@@ -84,7 +86,7 @@ pub fn write(out: &Path, files: &[Found], judgements: &[Judgement]) -> Result<()
         }
     }
     let rows = files.iter().zip(judgements).map(|(found, judgement)| Row::new(&found.path, judgement)).collect();
-    save(out, &Data { tool: TOOL, files: rows, details })
+    save(out, &Data { tool: TOOL, lists, files: rows, details })
 }
 
 /// Writes the page of one column, and says whether it opened.
@@ -93,7 +95,7 @@ pub fn write_one(out: &Path, file: &Path) -> Result<Status> {
     let judgement = judge(&bytes, Asked { sheet: Sheet::One, choice: false, max_rows: 1 << 27 }, None, &mut Scratch::default());
     let detail = Detail::new(&bytes, &judgement, WINDOW_ALONE);
     let rows = vec![Row::new(file, &judgement)];
-    save(out, &Data { tool: TOOL, files: rows, details: BTreeMap::from([(0, detail)]) })?;
+    save(out, &Data { tool: TOOL, lists: false, files: rows, details: BTreeMap::from([(0, detail)]) })?;
     Ok(Status::of(judgement.verdict != Verdict::Refused))
 }
 
