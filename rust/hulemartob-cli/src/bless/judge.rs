@@ -2,8 +2,10 @@
 
 use std::fmt::{self, Display};
 use std::ops::Range;
+use std::sync::{Mutex, PoisonError};
 
-use hulemartob::{Codec, Column, Error, Mismatch, PartName, Sheet, Stats, encode_into, stats};
+use anyhow::Result;
+use hulemartob::{Codec, Column, Error, Mismatch, PartName, Sheet, Stats, encode_into, max_encoded_len, stats};
 use serde::Serialize;
 
 use super::differ;
@@ -14,6 +16,14 @@ use crate::values::Values;
 
 /// Rows that are decoded at a time: the library then goes over them once.
 const CHUNK: usize = 512;
+
+/// Columns of more rows are judged one at a time, so that one of them alone asks for memory.
+const MANY_ROWS: u32 = 1 << 21;
+
+static ALONE: Mutex<()> = Mutex::new(());
+
+/// So many ranges of refused rows are kept.
+const KEPT_RANGES: usize = 1000;
 
 /// A column over lent bytes.
 type Lent<'a> = Column<u64, &'a [u8]>;
@@ -77,7 +87,7 @@ pub struct Judgement {
     pub offset: Option<usize>,
     #[serde(skip_serializing_if = "Option::is_none")]
     pub reason: Option<String>,
-    /// The rows that lie outside the bounds.
+    /// The rows that lie outside the bounds, the first thousand ranges of them.
     #[serde(skip_serializing_if = "Vec::is_empty")]
     pub out_of_bounds: Vec<Range<u32>>,
 }
@@ -126,11 +136,18 @@ pub struct Scratch {
     out: Vec<u8>,
 }
 
-/// Judges the column in some bytes, beside a list if there is one.
-pub fn judge(bytes: &[u8], asked: Asked, list: Option<&Values>, scratch: &mut Scratch) -> Judgement {
+/// What reads the list of a column, if there is to be one. It is asked only of a column whose rows could be decoded.
+pub type ReadList<'a> = &'a dyn Fn() -> Result<Option<Values>>;
+
+/// Judges the column in some bytes, beside its list.
+pub fn judge(bytes: &[u8], asked: Asked, list: ReadList, scratch: &mut Scratch) -> Judgement {
     let judgement = match Column::open_under(asked.sheet, bytes) {
         Ok(column) => {
+            let alone = (MANY_ROWS < column.len()).then(|| ALONE.lock().unwrap_or_else(PoisonError::into_inner));
             let judgement = judge_opened(&column, asked, list, scratch);
+            if alone.is_some() {
+                *scratch = Scratch::default();
+            }
             Judgement { codec: Some(column.codec().name()), rows: Some(column.len()), ..judgement }
         }
         Err(error) => Judgement::refused(bytes, error),
@@ -138,7 +155,7 @@ pub fn judge(bytes: &[u8], asked: Asked, list: Option<&Values>, scratch: &mut Sc
     Judgement { bytes: bytes.len() as u64, ..judgement }
 }
 
-fn judge_opened(column: &Lent, asked: Asked, list: Option<&Values>, scratch: &mut Scratch) -> Judgement {
+fn judge_opened(column: &Lent, asked: Asked, list: ReadList, scratch: &mut Scratch) -> Judgement {
     if asked.max_rows < column.len() {
         return Judgement::over(column.len(), "--max-rows");
     }
@@ -148,23 +165,31 @@ fn judge_opened(column: &Lent, asked: Asked, list: Option<&Values>, scratch: &mu
     if decode(column, values).is_err() {
         return out_of_bounds(column);
     }
-    if let Some(list) = list
-        && let Err(mismatch) = list.check(asked.sheet, column.bytes())
-    {
-        return Judgement::because(Verdict::Wrong, mismatched(mismatch, column, list));
+    match list() {
+        Ok(None) => {}
+        Ok(Some(list)) => {
+            if let Err(mismatch) = list.check(asked.sheet, column.bytes()) {
+                return Judgement::because(Verdict::Wrong, mismatched(mismatch, column, &list));
+            }
+        }
+        Err(error) => return Judgement::trouble(format!("{error:#}")),
     }
-    let (values, bytes) = (&*values, column.bytes());
+    rewritten_verdict(column, values, asked.choice, &mut scratch.out)
+}
+
+/// The verdict on a column by its rows, written again.
+fn rewritten_verdict(column: &Lent, values: &[u64], choice: bool, out: &mut Vec<u8>) -> Judgement {
+    let (codec, bytes) = (column.codec(), column.bytes());
     let mut chosen = None;
-    if asked.choice {
+    if choice {
         // With all codecs listed, one writing tells the choice and the bytes.
-        match written(values, &Codec::ALL, bytes.len(), &mut scratch.out) {
+        match written(values, &Codec::ALL, bytes.len(), out) {
             Ok(again) if again == bytes => return Judgement::new(Verdict::Exact),
             Ok(again) => chosen = again.first().and_then(|&code| Codec::try_from(code).ok()).map(|codec| (codec, again.len())),
             Err(error) => return Judgement::because(Verdict::Wrong, refusals::reason(error)),
         }
     }
-    let codec = column.codec();
-    match (written(values, &[codec], bytes.len(), &mut scratch.out), chosen) {
+    match (written(values, &[codec], bytes.len(), out), chosen) {
         (Ok(again), Some((chosen, length))) if again == bytes && chosen != codec => {
             let matter = format!("{codec} in {} bytes, the rules choose {chosen} in {length}", bytes.len());
             Judgement::at(Verdict::Other, Place::new(PartName::Code, 0, matter))
@@ -208,8 +233,9 @@ fn decode(column: &Lent, values: &mut [u64]) -> Result<(), Error> {
     values.chunks_mut(CHUNK).zip((0..=u32::MAX).step_by(CHUNK)).try_for_each(|(chunk, first)| column.read_into(first, chunk))
 }
 
-/// Writes a list. An output as long as the column is enough unless the rules write more bytes.
+/// Writes a list. An output as long as the column is enough unless the rules write more bytes; what follows a column may be much longer than any.
 fn written<'o>(values: &[u64], codecs: &[Codec], length: usize, out: &'o mut Vec<u8>) -> Result<&'o [u8], Error> {
+    let length = length.min(max_encoded_len(values.len()));
     if out.len() < length {
         out.resize(length, 0);
     }
@@ -225,17 +251,20 @@ fn written<'o>(values: &[u64], codecs: &[Codec], length: usize, out: &'o mut Vec
 
 /// The verdict on a column with refused rows.
 fn out_of_bounds(column: &Lent) -> Judgement {
-    let mut refused: Vec<Range<u32>> = Vec::new();
+    let (mut ranges, mut count) = (Vec::<Range<u32>>::new(), 0_u64);
     for (row, _) in (0..=u32::MAX).zip(column.iter()).filter(|(_, answer)| answer.is_err()) {
-        match refused.last_mut() {
+        count += 1;
+        let room = ranges.len() < KEPT_RANGES;
+        match ranges.last_mut() {
             Some(last) if last.end == row => last.end += 1,
-            _ => refused.push(row..row + 1),
+            _ if room => ranges.push(row..row + 1),
+            _ => {}
         }
     }
-    let offset = refused.first().and_then(|rows| byte_of(column, rows.start));
+    let offset = ranges.first().and_then(|rows| byte_of(column, rows.start));
     let part = offset.map(|_| PartName::Area.to_string());
-    let reason = rows_text(&refused, column.len());
-    Judgement { part, offset, out_of_bounds: refused, ..Judgement::because(Verdict::Wrong, reason) }
+    let reason = format!("{} of {} out of bounds: {}", many(count, "row"), column.len(), few(&ranges));
+    Judgement { part, offset, out_of_bounds: ranges, ..Judgement::because(Verdict::Wrong, reason) }
 }
 
 /// The first statistic that is not the rows'.
@@ -268,19 +297,15 @@ fn byte_of(column: &Lent, row: u32) -> Option<usize> {
     column.rows_of_byte(low).ok()?.contains(&row).then_some(low)
 }
 
-/// Rows out of bounds, the first few by name.
-fn rows_text(refused: &[Range<u32>], rows: u32) -> String {
+/// The first few ranges of rows.
+fn few(ranges: &[Range<u32>]) -> String {
     const NAMED: usize = 6;
-    let count: u64 = refused.iter().map(|rows| rows.len() as u64).sum();
-    let named = refused.iter().take(NAMED).map(|rows| match rows.len() {
+    let named = ranges.iter().take(NAMED).map(|rows| match rows.len() {
         1 => rows.start.to_string(),
         _ => format!("{}-{}", rows.start, rows.end - 1),
     });
-    let mut names = named.collect::<Vec<_>>().join(", ");
-    if NAMED < refused.len() {
-        names.push_str(", ..");
-    }
-    format!("{} of {rows} out of bounds: {names}", many(count, "row"))
+    let more = (NAMED < ranges.len()).then(|| "..".into());
+    named.chain(more).collect::<Vec<_>>().join(", ")
 }
 
 /// Why a column does not hold its list.

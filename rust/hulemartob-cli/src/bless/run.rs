@@ -2,7 +2,6 @@
 
 use std::io::{self, Write};
 use std::path::Path;
-use std::sync::{Mutex, PoisonError};
 use std::time::Instant;
 
 use anyhow::{Context, Result};
@@ -19,11 +18,6 @@ use crate::sources::{self, Found};
 
 /// So many columns are judged, then their lines printed in order.
 const BATCH: usize = 2048;
-
-/// Files from this length on are judged one at a time, so that memory is asked for by one of them alone.
-const LARGE: usize = 1 << 24;
-
-static ONE_LARGE: Mutex<()> = Mutex::new(());
 
 pub fn run(args: &cli::Bless) -> Result<Status> {
     let start = Instant::now();
@@ -82,16 +76,7 @@ fn judge_file(found: &Found, asked: Asked, lists: Option<&Lists>, scratch: &mut 
         Ok(bytes) => bytes,
         Err(error) => return Judgement::trouble(error.to_string()),
     };
-    let list = match lists.map(|lists| lists.read(found)).transpose() {
-        Ok(list) => list,
-        Err(error) => return Judgement { bytes: bytes.len() as u64, ..Judgement::trouble(format!("{error:#}")) },
-    };
-    let alone = (LARGE <= bytes.len()).then(|| ONE_LARGE.lock().unwrap_or_else(PoisonError::into_inner));
-    let judgement = judge(&bytes, asked, list.as_ref(), scratch);
-    if alone.is_some() {
-        *scratch = Scratch::default();
-    }
-    judgement
+    judge(&bytes, asked, &|| lists.map(|lists| lists.read(found)).transpose(), scratch)
 }
 
 fn print(out: &mut impl Write, args: &cli::Bless, batch: &[Found], judgements: &[Judgement]) -> io::Result<()> {

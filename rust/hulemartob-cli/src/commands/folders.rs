@@ -52,16 +52,20 @@ pub fn run(args: &cli::Compare) -> Result<Status> {
     let mut out = stdout_unless(args.quiet);
     let mut counts = Counts::default();
     for batch in pairs.chunks(BATCH) {
-        let look = |pair: &Pair| look(args, pair).inspect(|_| bar.inc(1));
+        let look = |pair: &Pair| {
+            let outcome = look(args, pair);
+            bar.inc(1);
+            outcome
+        };
         let outcomes: Vec<Result<Outcome>> = pool.install(|| batch.par_iter().with_max_len(8).map(look).collect());
         bar.suspend(|| -> Result<()> {
             for (pair, outcome) in batch.iter().zip(outcomes) {
-                if let Err(error) = outcome.and_then(|outcome| print(&mut out, args, pair, outcome, &mut counts)) {
-                    if crate::console::is_broken_pipe(&error) {
-                        return Err(error);
+                match outcome {
+                    Ok(outcome) => print(&mut out, args, pair, outcome, &mut counts)?,
+                    Err(error) => {
+                        complain(&format!("{error:#}"));
+                        status = Status::Trouble;
                     }
-                    complain(&format!("{error:#}"));
-                    status = Status::Trouble;
                 }
             }
             Ok(out.flush()?)

@@ -97,7 +97,7 @@ impl Detail {
             owned_from: 0,
             values: String::new(),
             first_value: 0,
-            out_of_bounds: judgement.out_of_bounds.iter().take(1000).map(|rows| [rows.start, rows.end]).collect(),
+            out_of_bounds: judgement.out_of_bounds.iter().map(|rows| [rows.start, rows.end]).collect(),
             bits: opened.as_ref().and_then(Column::width),
         };
         if let Some(column) = &opened {

@@ -92,7 +92,8 @@ pub fn write(out: &Path, files: &[Found], judgements: &[Judgement], lists: bool)
 /// Writes the page of one column, and says whether it opened.
 pub fn write_one(out: &Path, file: &Path) -> Result<Status> {
     let bytes = sources::read(file)?;
-    let judgement = judge(&bytes, Asked { sheet: Sheet::One, choice: false, max_rows: 1 << 27 }, None, &mut Scratch::default());
+    let asked = Asked { sheet: Sheet::One, choice: false, max_rows: 1 << 27 };
+    let judgement = judge(&bytes, asked, &|| Ok(None), &mut Scratch::default());
     let detail = Detail::new(&bytes, &judgement, WINDOW_ALONE);
     let rows = vec![Row::new(file, &judgement)];
     save(out, &Data { tool: TOOL, lists: false, files: rows, details: BTreeMap::from([(0, detail)]) })?;
