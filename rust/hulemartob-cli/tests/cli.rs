@@ -244,6 +244,8 @@ fn verdicts_by_their_reasons() {
     let mut stated = sound.clone();
     stated[3] = 0x83;
     let linear = vec![1, 0x8A, 0x8A, 0x82, 0x83, 0x80, 0x8A, 5, 0b1000_0000, 0b0010_1010];
+    let mut misstated = linear.clone();
+    misstated[3] = 0x83;
     let mut line = encode_with(&sloped(), &[Codec::Linear]).unwrap();
     let width = line.iter().enumerate().filter(|(_, b)| 128 <= **b).nth(5).unwrap().0;
     line[width] -= 128;
@@ -256,6 +258,7 @@ fn verdicts_by_their_reasons() {
         ("bounds", bounds, 1, "wrong: 1 row of 3 out of bounds: 1".into()),
         ("stated", stated, 1, "wrong: count at byte 3: maximum 40 is stated, the greatest row holds 30 (row 1)".into()),
         ("linear", linear, 1, "other: code at byte 0: Linear is not written for 3 rows".into()),
+        ("misstated", misstated, 1, "wrong: count at byte 3: maximum 40 is stated, the greatest row holds 30 (row 1)".into()),
     ];
     for (name, bytes, status, verdict) in &cases {
         folder.put(name, bytes);

@@ -189,23 +189,26 @@ fn rewritten_verdict(column: &Lent, values: &[u64], choice: bool, out: &mut Vec<
             Err(error) => return Judgement::because(Verdict::Wrong, refusals::reason(error)),
         }
     }
-    match (written(values, &[codec], bytes.len(), out), chosen) {
-        (Ok(again), Some((chosen, length))) if again == bytes && chosen != codec => {
-            let matter = format!("{codec} in {} bytes, the rules choose {chosen} in {length}", bytes.len());
-            Judgement::at(Verdict::Other, Place::new(PartName::Code, 0, matter))
-        }
-        (Ok(again), _) if again == bytes => Judgement::new(Verdict::Exact),
-        (Ok(again), _) => match stats(values) {
-            Ok(found) if found == column.stats() => Judgement::at(Verdict::Other, differ::first(column, again)),
-            Ok(found) => Judgement::at(Verdict::Wrong, misstated(column, found, values)),
-            Err(error) => Judgement::because(Verdict::Wrong, refusals::reason(error)),
-        },
+    let other = |place| Judgement::at(Verdict::Other, place);
+    let again = written(values, &[codec], bytes.len(), out);
+    if again == Ok(bytes) {
+        return match chosen {
+            Some((chosen, length)) if chosen != codec => {
+                let matter = format!("{codec} in {} bytes, the rules choose {chosen} in {length}", bytes.len());
+                other(Place::new(PartName::Code, 0, matter))
+            }
+            _ => Judgement::new(Verdict::Exact),
+        };
+    }
+    match (stats(values), again) {
+        (Ok(found), _) if found != column.stats() => Judgement::at(Verdict::Wrong, misstated(column, found, values)),
+        (Ok(_), Ok(again)) => other(differ::first(column, again)),
         // It can be read, but is not written for so few rows.
-        (Err(Error::NoCodecApplies), _) => {
+        (Ok(_), Err(Error::NoCodecApplies)) => {
             let matter = format!("{codec} is not written for {}", many(column.len(), "row"));
-            Judgement::at(Verdict::Other, Place::new(PartName::Code, 0, matter))
+            other(Place::new(PartName::Code, 0, matter))
         }
-        (Err(error), _) => Judgement::because(Verdict::Wrong, refusals::reason(error)),
+        (Err(error), _) | (_, Err(error)) => Judgement::because(Verdict::Wrong, refusals::reason(error)),
     }
 }
 

@@ -122,7 +122,7 @@ impl Detail {
             if owners.is_empty() {
                 last = first;
             }
-            leb(&mut owners, u64::from(rows.start + 1 - last));
+            leb(&mut owners, u64::from((rows.start + 1).saturating_sub(last)));
             leb(&mut owners, u64::from(rows.end - rows.start));
             last = rows.end;
         }
