@@ -209,7 +209,7 @@ impl Reader<'_> {
 mod tests {
     use hulemartob::{Codec, Column, encode_with};
 
-    use super::{Layout, Unread, varint};
+    use super::{Layout, Unread, WALKED, varint};
 
     #[test]
     fn numbers() {
@@ -225,14 +225,15 @@ mod tests {
     /// The parts that are read here are the library's: of sound columns, of columns with bytes left over, and of damaged ones that open.
     #[test]
     fn as_the_library() {
-        for rows in [0_u64, 1, 3, 511, 512, 513, 1500, 5000] {
+        for rows in [0_u64, 1, 3, 511, 512, 513, 1500, 5000, 512 * WALKED as u64 + 700] {
             let values: Vec<u64> = (0..rows).map(|r| 1000 + r * 7 + (r.wrapping_mul(0x9E37_79B9_7F4A_7C15) >> 52)).collect();
             for codec in Codec::ALL {
                 let Ok(bytes) = encode_with(&values, &[codec]) else { continue };
                 let mut longer = bytes.clone();
                 longer.extend([1, 2, 3]);
                 let mut cases = vec![bytes.clone(), longer];
-                for at in 0..bytes.len().min(40) {
+                // The library goes over the footer for each part: of many blocks a few cases will do.
+                for at in 0..bytes.len().min(if rows <= 5000 { 40 } else { 3 }) {
                     let mut damaged = bytes.clone();
                     damaged[at] ^= 1;
                     cases.push(damaged);

@@ -66,3 +66,40 @@ fn offending(bytes: &[u8], offset: usize) -> Option<Place> {
     };
     Some(Place::new(part, offset, matter))
 }
+
+#[cfg(test)]
+#[allow(clippy::unwrap_used)]
+mod tests {
+    use hulemartob::{Codec, Column, Error, Sheet, encode_with};
+
+    use super::place;
+
+    /// Every refusal of a cut, lengthened or changed column has a place in its bytes; where the library tells an offset, it is that one.
+    #[test]
+    fn of_every_refusal() {
+        let values: Vec<u64> = (0..1100_u64).map(|row| 5000 + 40 * row + row.wrapping_mul(0x9E37_79B9_7F4A_7C15) % 16).collect();
+        let mut numbers = [0; 21];
+        for codec in Codec::ALL {
+            let bytes = encode_with(&values, &[codec]).unwrap();
+            let head = bytes.len().min(24);
+            let cuts = (0..head).chain((head..bytes.len()).step_by(13)).map(|length| bytes[..length].to_vec());
+            let spots = (0..head).chain(bytes.len() - 24..bytes.len());
+            let changes = spots.flat_map(|at| (0..=255).map(move |byte| (at, byte))).map(|(at, byte)| {
+                let mut changed = bytes.clone();
+                changed[at] = byte;
+                changed
+            });
+            for case in cuts.chain(changes).chain([[&bytes[..], &[1]].concat()]) {
+                let Err(error) = Column::open_under(Sheet::Two, &case) else { continue };
+                numbers[usize::from(error.number())] += 1;
+                let place = place(&case, error).unwrap_or_else(|| panic!("{codec} {error}"));
+                assert!(place.offset <= case.len(), "{place}");
+                assert_eq!(error.offset().unwrap_or(place.offset), place.offset, "{place}");
+            }
+        }
+        for error in [Error::NotAColumn, Error::GcdZero, Error::OutOfRange, Error::AreaShort] {
+            assert_ne!(numbers[usize::from(error.number())], 0, "{error}");
+        }
+        assert!(0 < numbers[6] && 0 < numbers[9] && 0 < numbers[17], "{numbers:?}");
+    }
+}
