@@ -23,7 +23,15 @@ pub fn run(args: &cli::Compare) -> Result<Status> {
 fn files(args: &cli::Compare) -> Result<Status> {
     let (left, right) = sources::read_both(&args.left, &args.right)?;
     let mut out = stdout_unless(args.quiet);
-    let Some((left, right)) = opened(&mut out, (&args.left, &left), (&args.right, &right))? else { return Ok(Status::Not) };
+    let mut line = Vec::new();
+    let Some((left, right)) = opened(&mut line, (&args.left, &left), (&args.right, &right))? else {
+        match args.json {
+            true => writeln!(out, "{}", json!({ "type": "summary", "is": String::from_utf8_lossy(&line).trim_end() }))?,
+            false => out.write_all(&line)?,
+        }
+        out.flush()?;
+        return Ok(Status::Not);
+    };
     if args.quiet {
         return Ok(Status::of(first(&left, &right).is_none()));
     }
