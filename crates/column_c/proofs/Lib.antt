@@ -1,4 +1,5 @@
 pub mod Joining
 pub mod Ranges
 pub mod Types
+pub mod Copying
 pub mod Determined
