@@ -26,11 +26,9 @@
  *             blocks = error.value;
  *             hulemartob_open(bytes, length, table, blocks, &column, &error);
  *         }
- *         if (error.number) {
- *             fprintf(stderr, "refused %" PRIu64 ": %s\n", error.number, hulemartob_error_text(error.number));
- *             return 1;
- *         }
- *         for (uint32_t row = 0; row < column.window_rows; row++) {
+ *         bool opened = error.number == 0;
+ *         if (!opened) fprintf(stderr, "refused %" PRIu64 ": %s\n", error.number, hulemartob_error_text(error.number));
+ *         for (uint32_t row = 0; opened && row < column.window_rows; row++) {
  *             uint64_t value = hulemartob_row(&column, table, blocks, bytes, length, row, &error);
  *             if (error.number)
  *                 printf("%" PRIu32 " refused %" PRIu64 "\n", row, error.number);
@@ -40,7 +38,7 @@
  *         free(table);
  *         free(bytes);
  *         fclose(file);
- *         return 0;
+ *         return opened ? 0 : 1;
  *     }
  *
  * It is built by `cc rows.c $(pkg-config --cflags --libs hulemartob)` once `tools/install PREFIX` has put header and archive in place. hulemartob_typed.h
@@ -66,9 +64,9 @@
 #include <stddef.h>
 #include <stdint.h>
 
-#define HULEMARTOB_VERSION "0.1.0"
+#define HULEMARTOB_VERSION "0.2.0"
 #define HULEMARTOB_VERSION_MAJOR 0
-#define HULEMARTOB_VERSION_MINOR 1
+#define HULEMARTOB_VERSION_MINOR 2
 #define HULEMARTOB_VERSION_PATCH 0
 
 #ifdef __cplusplus
@@ -238,6 +236,28 @@ size_t hulemartob_run(const hulemartob_column *column, const hulemartob_block *t
 size_t hulemartob_lookup(const hulemartob_column *column, const hulemartob_block *table, size_t table_len, const uint8_t *bytes, size_t bytes_len,
                          uint64_t low, uint64_t high, uint32_t first, uint32_t end, uint32_t *found, size_t found_len, hulemartob_error *error);
 
+/* What a row answers: its value, or 0 and the refusal. */
+typedef struct hulemartob_answer {
+    hulemartob_error error;
+    uint64_t value;
+} hulemartob_answer;
+HULEMARTOB_NUMBERS(hulemartob_answer, 3);
+
+/* A row at which two columns differ, with what each answers; the row UINT64_MAX where none differs. */
+typedef struct hulemartob_differing {
+    uint64_t row;
+    hulemartob_answer left;
+    hulemartob_answer right;
+} hulemartob_differing;
+HULEMARTOB_NUMBERS(hulemartob_differing, 7);
+
+/* Looks for the first row from `from` on whose answers differ between two opened columns, each with the table and the bytes of its opening. The columns may
+ * differ in codec. Rows are those of the windows: one that only one window has is refused 12 by the other. Refused rows are equal if their numbers are. Where
+ * no row differs, `differing` is UINT64_MAX and zeros. Refused 13 where numbers are no column; `differing` is then as it was. */
+void hulemartob_difference(const hulemartob_column *left, const hulemartob_block *ltable, size_t ltable_len, const uint8_t *lbytes, size_t lbytes_len,
+                           const hulemartob_column *right, const hulemartob_block *rtable, size_t rtable_len, const uint8_t *rbytes, size_t rbytes_len,
+                           uint32_t from, hulemartob_differing *differing, hulemartob_error *error);
+
 /* ---- recorded lookups
  *
  * A recording begins with four numbers of 32 bits, little end first, as all of it is: how many records, the offset of the first, how many row numbers, the
@@ -339,6 +359,10 @@ size_t hulemartob_serialize_as(uint32_t kind, const uint64_t *values, size_t val
 int64_t hulemartob_i64_of(uint64_t stored);
 bool hulemartob_bool_of(uint64_t stored);
 uint64_t hulemartob_f64_bits_of(uint64_t stored);
+
+/* The same of a list of stored numbers, such as a run's, in one call: each becomes the word of the value that it reads as, a bool's 0 or 1. Never refused: where
+ * the number is no kind, the list is unchanged. */
+void hulemartob_values_as(uint32_t kind, uint64_t *list, size_t list_len);
 
 /* Stored numbers from `low` to `high`, both included. */
 typedef struct hulemartob_range {

@@ -114,8 +114,7 @@ static inline int64_t hulemartob_row_i64(const hulemartob_reader *reader, uint32
 
 static inline size_t hulemartob_run_i64(const hulemartob_reader *reader, uint32_t first, int64_t *out, size_t out_len, hulemartob_error *error) {
     size_t many = hulemartob_run_u64(reader, first, (uint64_t *)out, out_len, error);
-    for (size_t i = 0; i < many; i++)
-        out[i] = hulemartob_i64_of((uint64_t)out[i]);
+    hulemartob_values_as(HULEMARTOB_KIND_I64, (uint64_t *)out, many);
     return many;
 }
 
@@ -146,7 +145,7 @@ static inline size_t hulemartob_lookup_date(const hulemartob_reader *reader, int
     return hulemartob_lookup_i64(reader, low, high, first, end, found, found_len, error);
 }
 
-/* ---- bools; a run of them takes less room than its words: decode these, and read each by hulemartob_bool_of */
+/* ---- bools; a run of them takes less room than its words: decode these, and read them by hulemartob_values_as */
 
 static inline bool hulemartob_row_bool(const hulemartob_reader *reader, uint32_t row, hulemartob_error *error) {
     return hulemartob_bool_of(hulemartob_row_u64(reader, row, error));
@@ -181,12 +180,7 @@ static inline double hulemartob_row_f64(const hulemartob_reader *reader, uint32_
 
 static inline size_t hulemartob_run_f64(const hulemartob_reader *reader, uint32_t first, double *out, size_t out_len, hulemartob_error *error) {
     size_t many = hulemartob_run_u64(reader, first, (uint64_t *)(void *)out, out_len, error);
-    for (size_t i = 0; i < many; i++) {
-        uint64_t word;
-        memcpy(&word, &out[i], sizeof word);
-        word = hulemartob_f64_bits_of(word);
-        memcpy(&out[i], &word, sizeof word);
-    }
+    hulemartob_values_as(HULEMARTOB_KIND_F64, (uint64_t *)(void *)out, many);
     return many;
 }
 

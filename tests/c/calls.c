@@ -425,6 +425,56 @@ static void verdicts(void) {
     EXPECT(said(judged(maximum, sizeof maximum), HULEMARTOB_VERDICT_MAXIMUM, 0, 0));
 }
 
+/* Two columns, by two codecs, that differ in row 1,000, in the second half of its chunk. */
+static void differences(void) {
+    static uint8_t other[20000];
+    const uint8_t plain = HULEMARTOB_CODEC_BITPACKED;
+    const hulemartob_column none = no_column();
+    hulemartob_column left, right;
+    hulemartob_differing found, nothing;
+    block table[3];
+    memset(&nothing, 0, sizeof nothing);
+    nothing.row = UINT64_MAX;
+    size_t length = write_by(HULEMARTOB_CODEC_BLOCKWISE);
+    hulemartob_open(bytes, length, table, 3, &left, &error);
+    values[1000] += 1;
+    size_t others = hulemartob_serialize(values, 1025, &plain, 1, other, sizeof other, &error);
+    hulemartob_open(other, others, NULL, 0, &right, &error);
+    hulemartob_difference(&left, table, 3, bytes, length, &right, NULL, 0, other, others, 0, &found, &error);
+    EXPECT(refused(0, 0) && found.row == 1000 && found.left.error.number == 0 && found.left.value == values[1000] - 1);
+    EXPECT(found.right.error.number == 0 && found.right.value == values[1000]);
+    hulemartob_difference(&left, table, 3, bytes, length, &right, NULL, 0, other, others, 1001, &found, &error);
+    EXPECT(refused(0, 0) && memcmp(&found, &nothing, sizeof found) == 0);
+    /* Rows whose block is missing are refused 13: on one side, and on both. */
+    hulemartob_difference(&left, table, 1, bytes, length, &right, NULL, 0, other, others, 0, &found, &error);
+    EXPECT(found.row == 512 && found.left.error.number == 13 && found.left.value == 0 && found.right.value == values[512]);
+    hulemartob_difference(&left, table, 1, bytes, length, &left, table, 1, bytes, length, 0, &found, &error);
+    EXPECT(refused(0, 0) && memcmp(&found, &nothing, sizeof found) == 0);
+    /* Rows count from the windows' starts, and one of the longer window only is refused 12 by the other. */
+    hulemartob_narrow(&left, 100, 925, &error);
+    hulemartob_narrow(&right, 100, 800, &error);
+    hulemartob_difference(&left, table, 3, bytes, length, &right, NULL, 0, other, others, 0, &found, &error);
+    EXPECT(found.row == 800 && found.left.value == values[900] && found.right.error.number == 12 && found.right.value == 0);
+    hulemartob_difference(&none, table, 3, bytes, length, &right, NULL, 0, other, others, 0, &found, &error);
+    EXPECT(refused(13, 0) && found.row == 800);
+}
+
+/* A list of stored numbers read by each kind; where the number is no kind it stays. */
+static void lists_by_kind(void) {
+    const uint64_t stored[3] = {0, (uint64_t)1 << 63, UINT64_MAX};
+    const uint64_t read[5][3] = {{0, (uint64_t)1 << 63, UINT64_MAX},
+                                 {(uint64_t)1 << 63, 0, INT64_MAX},
+                                 {(uint64_t)1 << 63, 0, INT64_MAX},
+                                 {0, 1, 1},
+                                 {UINT64_MAX, 0, INT64_MAX}};
+    for (uint32_t kind = 0; kind < 6; kind++) {
+        uint64_t list[3];
+        memcpy(list, stored, sizeof list);
+        hulemartob_values_as(kind, list, 3);
+        EXPECT(memcmp(list, kind < 5 ? read[kind] : stored, sizeof list) == 0);
+    }
+}
+
 int main(void) {
     tables_of_any_length();
     any_record();
@@ -438,5 +488,7 @@ int main(void) {
     replays();
     parts();
     verdicts();
+    differences();
+    lists_by_kind();
     return ended();
 }

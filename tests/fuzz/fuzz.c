@@ -10,7 +10,7 @@
  *   - the parts of a column are its bytes from the first to the last, and a changed byte of the area changes no row but those that it names;
  *   - a recording of what lookups find agrees, and a replay of any other bytes says what its lookups do;
  *   - the verdict on a column is the one that rows and statistics give;
- *   - what a column reads as, written again, opens under both sheets and reads as the same.
+ *   - what a column reads as, written again, opens under both sheets and reads as the same, as values of any kind too, by which a lookup finds what lies between.
  *
  * Lent memory has exactly the length that the call is told, and ends right before a page that nobody may touch, or begins right behind one, by choice: the archive is
  * not compiled for a sanitizer, and so a byte that it reads or writes outside of what was lent is a fault all the same. Nor is it compiled for libFuzzer's counters:
@@ -353,6 +353,58 @@ static void ask(const subject *s, input *in) {
 
 /* ---- a list, written and read back */
 
+/* A value of a kind as a number that is ordered as the values are: of floats the order is IEEE 754's total one. */
+static int64_t ordered(uint32_t kind, uint64_t word) {
+    switch (kind) {
+    case HULEMARTOB_KIND_BOOL: return word != 0;
+    case HULEMARTOB_KIND_F64: return (int64_t)(word >> 63 ? word ^ INT64_MAX : word);
+    default: return (int64_t)word;
+    }
+}
+
+/* Words as values of a kind: they come back, and a lookup by values finds those that lie between. */
+static void typed_back(const uint64_t *values, size_t length, uint32_t kind, uint64_t choice) {
+    const uint8_t all[] = {0, 1, 2};
+    hulemartob_error error;
+    MUST(hulemartob_serialize_as(kind, values, length, all, 3, NULL, 0, &error) == 0 && error.number == 4);
+    size_t needed = error.value;
+    uint8_t *out = lend(WRITTEN, needed);
+    MUST(hulemartob_serialize_as(kind, values, length, all, 3, out, needed, &error) == needed && is(error, 0, 0));
+    subject s = {.bytes = out, .length = needed, .blocks = (length + 511) / 512};
+    hulemartob_block *table = lend(WRITTEN_BLOCKS, 32 * s.blocks);
+    hulemartob_verdict verdict;
+    hulemartob_check(kind, 2, out, needed, values, length, table, s.blocks, &verdict, &error);
+    MUST(is(error, 0, 0) && verdict.reason == HULEMARTOB_VERDICT_PASSED);
+    hulemartob_open(out, needed, table, s.blocks, &s.column, &error);
+    MUST(is(error, 0, 0));
+    s.table = table;
+    for (uint32_t i = 0; i < length; i += 1 + i / 8) {
+        uint64_t stored = hulemartob_row(OF(&s), i, &error);
+        MUST(is(error, 0, 0));
+        switch (kind) {
+        case HULEMARTOB_KIND_U64: MUST(stored == values[i]); break;
+        case HULEMARTOB_KIND_BOOL: MUST(hulemartob_bool_of(stored) == (values[i] != 0)); break;
+        case HULEMARTOB_KIND_F64: MUST(hulemartob_f64_bits_of(stored) == values[i]); break;
+        default: MUST((uint64_t)hulemartob_i64_of(stored) == values[i]);
+        }
+    }
+    if (!length || kind == HULEMARTOB_KIND_U64) return;
+    uint64_t low = values[choice % length], high = values[choice * 7 % length];
+    hulemartob_range range;
+    switch (kind) {
+    case HULEMARTOB_KIND_BOOL: hulemartob_bool_range(low != 0, high != 0, &range); break;
+    case HULEMARTOB_KIND_F64: hulemartob_f64_range(low, high, &range); break;
+    default: hulemartob_i64_range((int64_t)low, (int64_t)high, &range);
+    }
+    uint32_t *found = lend(FOUND, 4 * length);
+    size_t many = hulemartob_lookup(OF(&s), range.low, range.high, 0, (uint32_t)length, found, length, &error), k = 0;
+    MUST(is(error, 0, 0));
+    for (uint32_t i = 0; i < length; i++)
+        if (ordered(kind, low) <= ordered(kind, values[i]) && ordered(kind, values[i]) <= ordered(kind, high)) MUST(k < many && found[k++] == i);
+    MUST(k == many);
+    seen(17, kind, size_of(many));
+}
+
 static void write_back(const uint64_t *list, size_t length, uint64_t choice) {
     const uint8_t all[] = {0, 1, 2}, some[] = {choice >> 2 & 3, choice >> 4 & 3, choice >> 6 & 3};
     const uint8_t *codecs = choice & 1 ? some : all;
@@ -403,29 +455,7 @@ static void write_back(const uint64_t *list, size_t length, uint64_t choice) {
     }
     seen(8, out[0], size_of(needed));
 
-    /* The same words as values of a kind. */
-    uint32_t kind = (uint32_t)(choice % 5);
-    size_t typed = hulemartob_serialize_as(kind, values, length, all, 3, NULL, 0, &error);
-    MUST(typed == 0 && error.number == 4);
-    needed = error.value;
-    out = lend(WRITTEN, needed);
-    MUST(hulemartob_serialize_as(kind, values, length, all, 3, out, needed, &error) == needed && is(error, 0, 0));
-    s.bytes = out;
-    s.length = needed;
-    s.blocks = (length + 511) / 512;
-    s.table = lend(WRITTEN_BLOCKS, 32 * s.blocks);
-    hulemartob_open(out, needed, (hulemartob_block *)s.table, s.blocks, &s.column, &error);
-    MUST(is(error, 0, 0));
-    for (uint32_t i = 0; i < length; i += 1 + i / 8) {
-        uint64_t stored = hulemartob_row(OF(&s), i, &error);
-        MUST(is(error, 0, 0));
-        switch (kind) {
-        case HULEMARTOB_KIND_U64: MUST(stored == list[i]); break;
-        case HULEMARTOB_KIND_BOOL: MUST(hulemartob_bool_of(stored) == (list[i] != 0)); break;
-        case HULEMARTOB_KIND_F64: MUST(hulemartob_f64_bits_of(stored) == list[i]); break;
-        default: MUST((uint64_t)hulemartob_i64_of(stored) == list[i]);
-        }
-    }
+    typed_back(values, length, (uint32_t)(choice % 5), choice);
 }
 
 /* ---- a column that opens */

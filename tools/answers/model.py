@@ -486,15 +486,27 @@ def answer_text(column, table, s, row):
         return f"refused {r.number}"
 
 
-def comparison(left, right):
-    """Rows of both that differ, then rows of one only, then the count of lines. Two answers are equal if their texts are."""
+WHOLE = (0, ROWS - 1)
+
+
+def seen(column, window):
+    """The column narrowed to a window, by its first row and how many rows; or as it was, where that is refused, as it is of WHOLE."""
+    try:
+        return narrow(column, *window)
+    except Refused:
+        return column
+
+
+def comparison(left, right, lwindow=WHOLE, rwindow=WHOLE):
+    """Rows of both windows that differ, then rows of one only, then the count of lines. Two answers are equal if their texts are."""
     sides = []
-    for name, s in (("left", left), ("right", right)):
+    for name, s, window in (("left", left, lwindow), ("right", right, rwindow)):
         try:
-            sides.append((*open_in_program(s), s))
+            column, table = open_in_program(s)
         except Refused as r:
             return f"{name} refused {r.number}\n"
-    counts = [column.rows for column, _, _ in sides]
+        sides.append((seen(column, window), table, s))
+    counts = [column.seen for column, _, _ in sides]
     lines = []
     for row in range(min(counts)):
         a, b = (answer_text(*side, row) for side in sides)

@@ -22,7 +22,7 @@ BITPACKED_OTHER = h("008a8a828314")
 LINEAR_OTHER = h("018a8a8283808a054029")
 BLOCKWISE_OTHER = h("028a8a8283180000000088800207000000")
 
-# ---- columns: rows that are refused, no rows, one row, two blocks
+# ---- columns: rows that are refused, no rows, one row, two blocks, and the same rows on one line
 
 BITPACKED_REFUSED = h("008a8a82830c")
 LINEAR_REFUSED = h("018a8a8283808a05e02b")
@@ -31,6 +31,7 @@ LAST_REFUSED = h("008a8a8284d8")
 NO_ROWS = h("0080818080")
 ONE_ROW = h("0087818081")
 BLOCKS = h("02808a0084018400000000908000800084000b000000")
+LINE = h("01808a008401840000000020818000")
 
 # ---- what does not open, by each number
 
@@ -49,7 +50,7 @@ MOST_BYTES = ("65,536 bytes", bytes(65536))
 TOO_MANY_BYTES = ("65,537 bytes", bytes(65537))
 
 
-def compare():
+def pairs():
     """A title, and two columns."""
     yield from [
         ("Bitpacked and Linear", BITPACKED, LINEAR),
@@ -62,7 +63,7 @@ def compare():
         ("Linear with itself", LINEAR, LINEAR),
         ("Blockwise with itself", BLOCKWISE, BLOCKWISE),
         ("no rows", NO_ROWS, NO_ROWS),
-        ("two blocks and a line", BLOCKS, h("01808a008401840000000020818000")),
+        ("two blocks and a line", BLOCKS, LINE),
         ("rows refused on both sides", LINEAR_REFUSED, BLOCKWISE_REFUSED),
         ("1,048,576 rows", h("008781800000c0"), h("018781800000c0808700")),
     ]
@@ -100,7 +101,36 @@ def compare():
     ]
 
 
+def windows():
+    """A title, two columns, and a window in each: its first row, and how many rows."""
+    yield from [
+        ("Bitpacked and Blockwise, rows 1 and 2", (BITPACKED, BLOCKWISE), ((1, 2), (1, 2))),
+        ("other rows of one column", (BLOCKWISE, BLOCKWISE), ((0, 2), (1, 2))),
+        ("row 1, refused on the left side", (BLOCKWISE_REFUSED, BITPACKED), ((1, 2), (1, 2))),
+        ("row 1, refused on both sides", (BLOCKWISE_REFUSED, LINEAR_REFUSED), ((1, 1), (1, 1))),
+        ("a row more on the right side", (BITPACKED, LINEAR), ((1, 1), (1, 2))),
+        ("a row more on the left side", (BITPACKED, BLOCKWISE), ((0, 3), (0, 2))),
+        ("no rows on the right side", (BITPACKED, BLOCKWISE), ((2, 1), (3, 0))),
+        ("no rows at all", (BITPACKED, BLOCKWISE), ((3, 0), (0, 0))),
+        ("the last rows of two blocks, and of a line", (BLOCKS, LINE), ((510, 3), (510, 3))),
+        ("rows of two blocks, and the rows before them", (BLOCKS, BLOCKS), ((510, 3), (509, 3))),
+        ("the second block, and rows of the first", (BLOCKS, BLOCKS), ((512, 1), (300, 2))),
+        ("a window that is refused, and the whole column", (BITPACKED, BLOCKWISE), ((1, 3), (0, 3))),
+    ]
+
+
+def compare():
+    """A title, two columns, and a window in each."""
+    yield from [(title, columns, (model.WHOLE, model.WHOLE)) for title, *columns in pairs()]
+    yield from windows()
+
+
 def listing():
+    """A title, a column, and no window."""
+    yield from [(title, [column], ()) for title, column in columns()]
+
+
+def columns():
     """A title, and a column."""
     yield from [
         ("Bitpacked: 10, 30, 20", BITPACKED),
@@ -117,16 +147,17 @@ def listing():
 
 
 def file(cases):
-    """The cases as the programs read them: the lengths of title and columns, then these."""
+    """The cases as the programs read them: the lengths of title and columns, the windows' numbers, then title and columns."""
     parts = []
-    for title, *columns in cases:
+    for title, columns, windows in cases:
         items = [title.encode() + b"\n", *columns]
-        parts += [len(item).to_bytes(4, "little") for item in items] + items
+        numbers = [len(item) for item in items] + [number for window in windows for number in window]
+        parts += [number.to_bytes(4, "little") for number in numbers] + items
     return b"".join(parts)
 
 
 def stdout(cases, report):
-    return "".join(f"{title}\n{report(*columns)}" for title, *columns in cases)
+    return "".join(f"{title}\n{report(*columns, *windows)}" for title, columns, windows in cases)
 
 
 if __name__ == "__main__":

@@ -57,35 +57,9 @@ pub fn get_val(column: Column, bytes: &[u8], row: ColumnRow) -> RowRead
     stats::scaled(column, row, multiple)
 }
 
-// The rows from `first` on whose numbers stand at a width in an area, each scaled, up to the first above the count. Plain numbers, and a bit that
-// moves from row to row, so that nothing is left in the loop but the row's own work.
-fn scale_rows(area: &[u8], width: u8, column: Column, first: u32, out: &mut [u64]) -> usize
-    requires { ⌜ legal width ≡ true ⌝ }
-    requires { ⌜ column .minimum + column .count * column .gcd < 2 ^ 64 ⌝ }
-    requires { ⌜ first + length (now out) ≤ 2 ^ 32 ⌝ }
-    ensures { λ n. ⌜ filledTo n first (now (out .exit)) ≡ readRun (λ (r : ℕ). scaled column r (unpack width (now (area .entry)) r)) first (length (now (out .entry))) ⌝ }
-{
-    let minimum = column.minimum;
-    let gcd = column.gcd;
-    let count = column.count;
-    let step = width as usize;
-    let mut bit = first as usize * step;
-    let mut i = 0;
-    while i < out.len() {
-        let multiple = bitpacker::get_at(area, width, bit);
-        if count < multiple {
-            return i;
-        }
-        out[i] = minimum + gcd * multiple;
-        bit += step;
-        i += 1;
-    }
-    i
-}
-
-// Whether a column's values are its numbers above the minimum, at a width of fewer than 64 bits.
+// Whether a column's values are its numbers above the minimum. Of 64 bits they are taken as multiples: most such numbers have the top bit, by which a whole chunk is tested.
 fn is_plain(gcd: u64, width: u8) -> bool
-    ensures { λ r. ⌜ (r ≡ true → (gcd ≡ 1) × (width < 64)) ⌝ }
+    ensures { λ r. ⌜ (r ≡ true → gcd ≡ 1) ⌝ }
 {
     if gcd != 1 {
         return false;
@@ -93,21 +67,18 @@ fn is_plain(gcd: u64, width: u8) -> bool
     width < 64
 }
 
-// The same rows. Those of a plain column are unpacked as a whole and raised as a whole; only where one of them is above the count does it take the way of the others, row by row.
+// The rows from `first` on whose numbers stand at a width in an area, each scaled, up to the first above the count.
 fn scale_run(area: &[u8], width: u8, column: Column, first: u32, out: &mut [u64]) -> usize
     requires { ⌜ legal width ≡ true ⌝ }
-    requires { ⌜ (column .minimum + column .count * column .gcd < 2 ^ 64) × (width < 64 → column .count < 2 ^ 63) ⌝ }
+    requires { ⌜ column .minimum + column .count * column .gcd < 2 ^ 64 ⌝ }
     requires { ⌜ first + length (now out) ≤ 2 ^ 32 ⌝ }
     ensures { λ n. ⌜ filledTo n first (now (out .exit)) ≡ readRun (λ (r : ℕ). scaled column r (unpack width (now (area .entry)) r)) first (length (now (out .entry))) ⌝ }
 {
-    if !is_plain(column.gcd, width) {
-        return scale_rows(area, width, column, first, out);
-    }
     bitpacker::get_run(area, width, first, out);
-    if raising::raise(out, column.minimum, column.count) == 0 {
-        return out.len();
+    if is_plain(column.gcd, width) {
+        return raising::raise(out, column.minimum, column.count);
     }
-    scale_rows(area, width, column, first, out)
+    raising::scale(out, column)
 }
 
 // Internal: asks for the same, and for rows below 2^32. The values of the rows from `first` on, as many as the list has room for, up to the first that is out of bounds: returns how many.

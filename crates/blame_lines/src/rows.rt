@@ -4,7 +4,7 @@ ghost use Prim.Native.Nat.{_+_, _-_, _≤_, _<_};
 ghost use lib.ListN.{length};
 ghost use Rattle.format.specs.Listing.{rowTexts};
 ghost use Rattle.format.specs.Outcome.{Wrote};
-ghost use Rattle.tableless.specs.Own.{ownRow, ownAt, Opens, Owned};
+ghost use Rattle.tableless.specs.Own.{ownRow, blockOf, ownAt, Opens, Owned};
 ghost use Rattle.bytewise.specs.Owners.{Few};
 ghost use Rattle.blame_lines.specs.Bytes.{blameMax, rowText, ownersText, textAt};
 use crate::lines::put_byte_line;
@@ -13,12 +13,13 @@ use bytewise::fields::same_at;
 use bytewise::owners::owners_of;
 use format::Column;
 use format::Owners;
+use format::WindowRow;
 use tableless::own::Own;
 
 // Internal: asks for a column that was opened of these bytes. The column at the block of a row.
-fn own_at(column: Column, bytes: &[u8], row: u32) -> Own
+fn own_at(column: Column, bytes: &[u8], row: WindowRow) -> Own
     requires { ⌜ Opens (now bytes) column ⌝ }
-    ensures { λ r. ⌜ r ≡ ownAt (now (bytes .entry)) column row ⌝ }
+    ensures { λ r. ⌜ r ≡ ownAt (now (bytes .entry)) column (blockOf column (row .0)) ⌝ }
 {
     tableless::own::reach(tableless::own::begin(bytes, column), bytes, row)
 }
@@ -46,8 +47,8 @@ fn put_rows(
     let mut k = 0;
     while k < count {
         let row = first + k;
-        let a = tableless::own::answer(left, lbytes, row);
-        let b = tableless::own::answer(right, rbytes, row);
+        let a = tableless::own::answer(left, lbytes, WindowRow(row));
+        let b = tableless::own::answer(right, rbytes, WindowRow(row));
         end = put_row(out, end, row, a, b);
         k += 1;
     }
@@ -73,8 +74,8 @@ fn put_owners(
 {
     match owners {
         Owners::Rows { first, last } => {
-            let l = own_at(left, lbytes, first);
-            let r = own_at(right, rbytes, first);
+            let l = own_at(left, lbytes, WindowRow(first));
+            let r = own_at(right, rbytes, WindowRow(first));
             put_rows(out, at, l, lbytes, r, rbytes, first, last)
         }
         Owners::NoRow => at,

@@ -5,3 +5,4 @@ pub mod Footers
 pub mod Passes
 pub mod Stops
 pub mod Lasts
+mod Shorts

@@ -1,7 +1,7 @@
 // Reading: opening a column behind its head.
 //
 // The footer is read twice. The first pass, here, reads every block's fields and adds up the area, before anything is decided;
-// who needs the blocks takes them one after another, once they are known to be good.
+// who needs the blocks takes them one after another, once they are known to be good. Both go the short way (`short`) where they can.
 ghost use mathlib.Core.Path.{_≡_};
 ghost use mathlib.Core.Bool.{_&&_};
 ghost use Prim.Native.Nat.{_+_, _-_, min};
@@ -110,7 +110,7 @@ pub fn first(bytes: &[u8], rows: u32) -> Cursor
 }
 
 // The rows of a block with so many rows from it on: 512, in the last perhaps fewer.
-fn block_rows(left: u32) -> u32
+pub(crate) fn block_rows(left: u32) -> u32
     ensures { λ r. ⌜ r ≡ min left 512 ⌝ }
 {
     if left < 512 { left } else { 512 }
@@ -144,9 +144,9 @@ fn step_read(bytes: &[u8], c: Cursor) -> StepRead
     })
 }
 
-// Internal: asks that the area's bytes can be counted. The first pass: every block from a place on is read, their area added
-// up, and the first longer spelling kept.
-fn check(bytes: &[u8], place: Cursor) -> AreaRead
+// Internal: asks that the area's bytes can be counted. The first pass, the long way: every block from a place on is read, their
+// area added up, and the first longer spelling kept.
+fn check_any(bytes: &[u8], place: Cursor) -> AreaRead
     requires { ⌜ Small place ⌝ }
     ensures { λ r. ⌜ areaMeaning r ≡ areaIn (blocksFrom (now (bytes .entry)) place) ⌝ }
 {
@@ -162,6 +162,26 @@ fn check(bytes: &[u8], place: Cursor) -> AreaRead
         c = step.next;
     }
     AreaRead::Area(c.start, spelling)
+}
+
+// Internal: asks the same. The first pass, the short way as long as it finds the blocks: then no number is spelled longer.
+fn check(bytes: &[u8], place: Cursor) -> AreaRead
+    requires { ⌜ Small place ⌝ }
+    ensures { λ r. ⌜ areaMeaning r ≡ areaIn (blocksFrom (now (bytes .entry)) place) ⌝ }
+{
+    let mut c = place;
+    while 0 < c.left {
+        let p = crate::short::step(bytes, c);
+        if !p.there {
+            return check_any(bytes, place);
+        }
+        c = Cursor {
+            at: p.at,
+            start: p.start,
+            left: p.left,
+        };
+    }
+    AreaRead::Area(c.start, Spelling::Shortest)
 }
 
 // The column of a head whose blocks were checked: its area has to end before the footer.

@@ -2,10 +2,10 @@
 --     none              a number of no bits is 0
 --     start-inside      a block's numbers are read from within the bytes
 --     row-is            the line plus the number, both at the row within the block, is the row's multiple
---     raised-run        rows whose numbers were raised by the line as a whole
+--     multiples-read, heights-read      rows unpacked into a list: as multiples, and as heights above the minimum where the gcd is 1
 -- Assumes nothing.
 use Prim.Native.Nat.{ℕ, _+_, _-_, _*_, _%_, _^_, _≤_, _<_}
-use mathlib.Core.Path.{_≡_, refl, sym, ap, ap₂, _∙_}
+use mathlib.Core.Path.{_≡_, refl, sym, ap, _∙_}
 use mathlib.Core.Bool.{Bool, true, false}
 use mathlib.Core.Logic.{⊎-elim}
 use mathlib.Core.List.{List}
@@ -20,11 +20,10 @@ use Rattle.format.specs.declared.Column.{Column}
 use Rattle.format.specs.Outcome.{pick}
 use Rattle.format.specs.declared.Line.{Line}
 use Rattle.format.specs.Word.{modAdd, modSub}
-use Rattle.format.specs.Runs.{readRun, filledTo}
 use Rattle.format.proofs.Words.{add-below}
 use Rattle.bitpacker.specs.Runs.{Unpacked}
-use Rattle.raising.specs.Raising.{Raised, aboveLine}
-use Rattle.raising.proofs.Raises.{run-raised, plain-row}
+use Rattle.raising.specs.Raising.{aboveLine, reached, ReadBy}
+use Rattle.raising.proofs.Filling.{plain-row}
 use Rattle.format.specs.Line.{lineAt}
 use Rattle.format.specs.Packing.{unpack, numOf}
 use Rattle.format.specs.Reading.{placeIn, packedOf, scaled, valueIn, valueAt}
@@ -62,21 +61,27 @@ module _ (col : Column) (b : Block) (s : List ℕ) where
   unfolding valueIn packedOf placeIn
   row-is r {at} codec start = rw (codec, part-to-end s at, start, same-number (r % 512))
 
+-- ---- rows unpacked into a list
+
 -- nothing taken from a number
 less-none : (a : ℕ) → a < 2 ^ 64 → modSub a 0 ≡ a
 less-none a h = omega arith
 
-pub raised-run : (col : Column) (l : Line) (area : List ℕ) (w first from n : ℕ) (raw list : List ℕ) → col .gcd ≡ 1 → col .minimum + col .count * col .gcd < 2 ^ 64
-    → from ≡ first % 512 → first % 512 + n ≤ 512 → length raw ≡ n → length list ≡ n → Unpacked w area from n raw → Raised (aboveLine l from 0) (col .minimum) (col .count) raw list
-    → filledTo (length list) first list ≡ readRun (λ (r : ℕ). scaled col r (modAdd (lineAt l (r % 512)) (unpack w area (r % 512)))) first n
-raised-run col l area w first from n raw list one bounds place few long same u r =
-    ap (λ (k : ℕ). filledTo k first list) same
-    ∙ run-raised (λ (q : ℕ). scaled col q (modAdd (lineAt l (q % 512)) (unpack w area (q % 512)))) first n list same
-    (λ (j : ℕ) (h : j < n).
-    let k : j < length raw = omega arith in
-    let at : (first + j) % 512 ≡ from + j = omega arith in
-    let m = modAdd (lineAt l (from + j)) (getD raw j 0) in
-    let bare : modSub m 0 ≡ m = less-none m (add-below _ _) in
-    ap (λ (x : ℕ). scaled col (first + j) (modAdd (lineAt l x) (unpack w area x))) at
-    ∙ ap (λ (x : ℕ). scaled col (first + j) (modAdd (lineAt l (from + j)) x)) (sym (u .sofar j h))
-    ∙ plain-row col (first + j) m (getD list j 0) one bounds (rw bare at (r .within j k)) (r .raised j k ∙ ap (modAdd (col .minimum)) bare))
+module _ (col : Column) (l : Line) (area : List ℕ) (w first from n : ℕ) (raw : List ℕ) (place : from ≡ first % 512) (few : first % 512 + n ≤ 512) (long : length raw ≡ n) (u : Unpacked w area from n raw) where
+  pub multiples-read : ReadBy (λ (i r v : ℕ). scaled col r (modAdd (lineAt l (from + i)) v)) (λ (r : ℕ). scaled col r (modAdd (lineAt l (r % 512)) (unpack w area (r % 512)))) first raw
+  multiples-read = record {
+    each = λ (i : ℕ) (h : i < length raw).
+        let at : (first + i) % 512 ≡ from + i = omega arith in
+        ap (λ (x : ℕ). scaled col (first + i) (modAdd (lineAt l x) (unpack w area x))) at
+        ∙ ap (λ (x : ℕ). scaled col (first + i) (modAdd (lineAt l (from + i)) x)) (sym (u .sofar i (omega arith)));
+  }
+
+  pub heights-read : col .gcd ≡ 1 → col .minimum + col .count * col .gcd < 2 ^ 64
+      → ReadBy (λ (i r v : ℕ). reached (col .minimum) (col .count) r (aboveLine l from 0 i v)) (λ (r : ℕ). scaled col r (modAdd (lineAt l (r % 512)) (unpack w area (r % 512)))) first raw
+  heights-read one bounds = record {
+    each = λ (i : ℕ) (h : i < length raw).
+        let m = modAdd (lineAt l (from + i)) (getD raw i 0) in
+        multiples-read .each i h
+        ∙ plain-row col (first + i) m one bounds
+        ∙ ap (reached (col .minimum) (col .count) (first + i)) (sym (less-none m (add-below _ _)));
+  }

@@ -68,75 +68,19 @@ fn numbers_start(column: Column, block: Block) -> usize
     column.start + block.start as usize
 }
 
-// Internal: asks for a legal width. The multiple of a row within its block: the line there, and the number whose first bit is `bit`.
-fn multiple_at(area: &[u8], line: Line, bits: u8, bit: usize, within: u32) -> u64
-    requires { ⌜ legal bits ≡ true ⌝ }
-    ensures { λ m. ⌜ (bit ≡ within * bits → m ≡ modAdd (lineAt line within) (unpack bits (now (area .entry)) within)) ⌝ }
-{
-    let number = bitpacker::get_at(area, bits, bit);
-    word::add(line::eval(line, within as u64), number)
-}
-
 // The rows of one block from `first` on, by the line of that block and the numbers that stand at a width in an area, each scaled, up to the first above the count.
-fn line_rows(
-    area: &[u8],
-    line: Line,
-    bits: u8,
-    column: Column,
-    first: u32,
-    out: &mut [u64],
-) -> usize
-    requires { ⌜ legal bits ≡ true ⌝ }
-    requires { ⌜ column .minimum + column .count * column .gcd < 2 ^ 64 ⌝ }
-    requires { ⌜ first % 512 + length (now out) ≤ 512 ⌝ }
-    ensures { λ n. ⌜ filledTo n first (now (out .exit)) ≡ readRun (λ (r : ℕ). scaled column r (modAdd (lineAt line (r % 512)) (unpack bits (now (area .entry)) (r % 512)))) first (length (now (out .entry))) ⌝ }
-{
-    let minimum = column.minimum;
-    let gcd = column.gcd;
-    let count = column.count;
-    let from = split(ColumnRow(first)).row.0;
-    let step = bits as usize;
-    let mut bit = from as usize * step;
-    let mut i = 0;
-    while i < out.len() {
-        let within = from + i as u32;
-        let multiple = multiple_at(area, line, bits, bit, within);
-        if count < multiple {
-            return i;
-        }
-        out[i] = minimum + gcd * multiple;
-        bit += step;
-        i += 1;
-    }
-    i
-}
-
-// Whether a column's values are their multiples above the minimum, and these below 2^63.
-fn is_plain(gcd: u64, count: u64) -> bool
-    ensures { λ r. ⌜ (r ≡ true → (gcd ≡ 1) × (count < 2 ^ 63)) ⌝ }
-{
-    if gcd != 1 {
-        return false;
-    }
-    count < 0x8000_0000_0000_0000
-}
-
-// The same rows. Those of a plain column are unpacked as a whole and raised by the line as a whole; only where one of them is above the count does it take the way of the others, row by row.
 fn line_run(area: &[u8], line: Line, bits: u8, column: Column, first: u32, out: &mut [u64]) -> usize
     requires { ⌜ legal bits ≡ true ⌝ }
     requires { ⌜ column .minimum + column .count * column .gcd < 2 ^ 64 ⌝ }
     requires { ⌜ first % 512 + length (now out) ≤ 512 ⌝ }
     ensures { λ n. ⌜ filledTo n first (now (out .exit)) ≡ readRun (λ (r : ℕ). scaled column r (modAdd (lineAt line (r % 512)) (unpack bits (now (area .entry)) (r % 512)))) first (length (now (out .entry))) ⌝ }
 {
-    if !is_plain(column.gcd, column.count) {
-        return line_rows(area, line, bits, column, first, out);
-    }
     let from = split(ColumnRow(first)).row.0;
     bitpacker::get_run(area, bits, from, out);
-    if raising::raise_by_line(out, line, from as u64, 0, column.minimum, column.count) == 0 {
-        return out.len();
+    if column.gcd == 1 {
+        return raising::raise_by_line(out, line, from as u64, 0, column.minimum, column.count);
     }
-    line_rows(area, line, bits, column, first, out)
+    raising::scale_by_line(out, line, from as u64, column)
 }
 
 // Internal: asks for the same, and for rows of one block. The values of the rows of a block from `first` on, as many as the list has room for, up to the first that is out of bounds: returns how many.

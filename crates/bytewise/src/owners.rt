@@ -16,7 +16,7 @@ fn rows_at(column: Column, bytes: &[u8], offset: usize) -> RowsRead
     let mut own = tableless::own::begin(bytes, column);
     let mut search = owning::begin(column, bytes, offset);
     while 0 < search.left {
-        own = tableless::own::reach(own, bytes, 512 * (search.next as u32));
+        own = tableless::own::reach_block(own, bytes, search.next);
         let block = own.pass.block;
         search = owning::step(column, block, search);
     }

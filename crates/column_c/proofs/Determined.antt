@@ -7,7 +7,7 @@
 --     narrows-determined      hulemartob_narrow
 --     judges-determined       hulemartob_check
 --     reports-determined      hulemartob_replay
---     tells-determined        hulemartob_part_at, _rows_at
+--     tells-determined        hulemartob_part_at, _rows_at, _difference
 -- The others, which read a stored number and make a range, promise equations.
 -- Assumes nothing.
 use Prim.Native.Nat.{ℕ}

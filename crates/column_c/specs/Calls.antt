@@ -18,6 +18,7 @@ use Rattle.format.specs.Runs.{decoded}
 use Rattle.format.specs.Sheets.{openedUnder}
 use Rattle.format.specs.Typed.{storedAs}
 use Rattle.explaining.specs.Bytes.{partOf}
+use Rattle.monotonic_mapping.specs.Words.{wordsAs}
 use Rattle.owning.specs.Bytes.{rowsOf}
 use Rattle.plain.specs.Explaining.{partNumbers, rowsTold, Tells}
 use Rattle.plain.specs.Kinds.{kindFrom}
@@ -29,6 +30,10 @@ use Rattle.telling.specs.Checking.{verdictNumbers}
 -- the two numbers of a range
 abbrev pub rangeNumbers : Range → List ℕ
 rangeNumbers r = r .low ∷ r .high ∷ []
+
+-- the words of the values that a list of stored numbers reads as, of the kind of a number
+abbrev pub wordsFrom : (n : ℕ) (us : List ℕ) → Outcome (List ℕ)
+wordsFrom n us = kindFrom n >>= (λ (kind : Kind). value (wordsAs kind us))
 
 -- reading a row of the column of twelve numbers
 abbrev pub rowFrom : (ns : List ℕ) (t : List Block) (s : List ℕ) (r : ℕ) → Outcome ℕ

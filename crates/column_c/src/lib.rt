@@ -5,6 +5,7 @@
 // A call that is lent a table makes a column of its numbers, or one of no rows where they are none, is made with that column in any case, and has its
 // answer told by one call: the refusal of the numbers comes first.
 mod checks;
+mod differs;
 mod parts;
 mod replays;
 mod typed;
@@ -20,12 +21,10 @@ ghost use Rattle.column_c.specs.Calls.{rowFrom, foundFrom, runFrom, List
 use format::Block;
 use plain::column_from;
 use plain::column_of;
-use plain::window_row;
 use telling::column_told;
 use telling::found_told;
 use telling::length_told;
 use telling::open_told;
-use telling::row_told;
 use telling::run_told;
 use telling::stats_told;
 
@@ -111,11 +110,10 @@ pub extern "C" fn hulemartob_row(
 ) -> u64
     ensures { λ r. ⌜ Answers (rowFrom (now (column .entry)) (now (table .entry)) (now (bytes .entry)) row) r (now (refusal .exit)) ⌝ }
 {
-    let made = column_from(column);
-    let opened = column_of(made);
-    let at = window_row(row);
-    let answer = records::row(opened, table, bytes, at);
-    row_told(made, answer, refusal)
+    let blocks = table.len();
+    let k = plain_calls::block_for(column, row);
+    let block = records::block_at(table, k);
+    plain_calls::row_by(column, blocks, block, bytes, row, refusal)
 }
 
 // How many rows were found, 0 on refusal: those from `first` to `end` whose value lies from `low` to `high`. They are the first entries of `found`.

@@ -1,12 +1,14 @@
 // Columns of signed numbers, dates, bools and floats. A list of any kind is lent as 64-bit words, with the kind's number: 0 plain numbers, 1 signed numbers,
-// 2 dates, 3 bools, 4 floats. What a row's value reads as is a call on that number, and a lookup by values is one in the range of stored numbers that
+// 2 dates, 3 bools, 4 floats. What a row's value reads as is a call on that number, what a run's values read as one on the list of them, and a lookup by values is one in the range of stored numbers that
 // a call makes of its bounds: so no call here takes a column.
 ghost use mathlib.Core.Path.{_≡_};
 ghost use lib.ListN.{length};
 ghost use Rattle.format.specs.Typed.{signedOf, flagOf, floatOf, signedRange, flagRange, floatRange};
-ghost use Rattle.plain.specs.Numbers.{States};
+ghost use Rattle.plain.specs.Numbers.{filled, States};
 ghost use Rattle.plain_calls.specs.Calls.{statedFrom, writtenFrom};
-ghost use Rattle.column_c.specs.Calls.{rangeNumbers, Lists};
+ghost use Rattle.column_c.specs.Calls.{rangeNumbers, wordsFrom, Lists};
+use plain::kinds::kind_from;
+use plain::kinds::kind_of;
 use telling::length_told;
 use telling::stats_told;
 
@@ -65,6 +67,16 @@ pub extern "C" fn hulemartob_f64_bits_of(stored: u64) -> u64
     ensures { λ r. ⌜ r ≡ floatOf stored ⌝ }
 {
     monotonic_mapping::float_of(stored)
+}
+
+// The values of a kind that a list of stored numbers reads as, in their place, lent as words; where the number is no kind, the list stays as it was.
+#[no_mangle]
+pub extern "C" fn hulemartob_values_as(kind: u32, list: &mut [u64])
+    ensures { λ _. ⌜ now (list .exit) ≡ filled (wordsFrom kind (now (list .entry))) (now (list .entry)) ⌝ }
+{
+    let known = kind_from(kind);
+    let read_as = kind_of(known);
+    monotonic_mapping::words_as(read_as, list);
 }
 
 // ---- looking up

@@ -4,6 +4,7 @@ ghost use lib.ListN.{length};
 ghost use Rattle.comparison.specs.Chunk.{pairMax};
 ghost use Rattle.tableless.specs.Own.{Owned};
 use comparison::Begun;
+use format::WindowRow;
 use libc::STDOUT_FILENO;
 use tableless::own::Own;
 
@@ -26,9 +27,10 @@ fn write_rows(left: Own, lbytes: &[u8], right: Own, rbytes: &[u8], out: &mut [u8
     let mut from = 0;
     let mut count = 0;
     while from < rows {
-        l = tableless::own::reach(l, lbytes, from);
-        r = tableless::own::reach(r, rbytes, from);
-        let took = comparison::fill_lines(l, lbytes, r, rbytes, from, out);
+        let row = WindowRow(from);
+        l = tableless::own::reach(l, lbytes, row);
+        r = tableless::own::reach(r, rbytes, row);
+        let took = comparison::fill_lines(l, lbytes, r, rbytes, row, out);
         let n = took.bytes;
         if !io::write_all(STDOUT_FILENO, &out[..n]) {
             return Lines {

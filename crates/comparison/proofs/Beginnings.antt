@@ -24,6 +24,7 @@ use Rattle.tableless.specs.Own.{ownFirst, Owned}
 use Rattle.text.specs.Refused.{refusedBy}
 use Rattle.tableless.proofs.Answered.{found-column, found-refusal}
 use Rattle.tableless.proofs.Owns.{owned-first}
+use Rattle.tableless.proofs.Rows.{opens-shows}
 use Rattle.text.proofs.Texts.{counts}
 use Rattle.comparison.specs.declared.Begun.{Begun}
 use Rattle.comparison.specs.declared.Begun.the-variants.{Columns, Refused as BegunRefused}
@@ -64,7 +65,7 @@ pub begun-owned : {s t : List ℕ} {own its : Own} {old new : List ℕ} → Begu
 begun-owned {s} {t} {own} {its} f = go (openedHere s) (openedHere t) refl refl (f .answer)
   where
     owned : (s : List ℕ) (l : Loaded) (x : Own) → openedHere s ≡ value l → x ≡ ownFirst s (l .column) → Owned s (x .column) (x .pass)
-    owned s l x e same = subst (λ (x : Own). Owned s (x .column) (x .pass)) (sym same) (owned-first (record { found = l; opened = e; column = refl }))
+    owned s l x e same = subst (λ (x : Own). Owned s (x .column) (x .pass)) (sym same) (owned-first (opens-shows (record { found = l; opened = e; column = refl })))
 
     go : (o p : Outcome Loaded) → openedHere s ≡ o → openedHere t ≡ p → Columns own its ≡ begun s t o p → Owned s (own .column) (own .pass) × Owned t (its .column) (its .pass)
     go (value u) (value w) e f is = (owned s u own e (cc), owned t w its f (cc))

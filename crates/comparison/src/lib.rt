@@ -1,6 +1,6 @@
 // Two columns compared, as text: a line for each row whose answers differ, as many at a time as a lent buffer has room for, and the count of
-// lines. A side that does not open is a line of its own. No argument makes a call fail, and each contract says what every lent entry
-// holds afterwards.
+// lines. A side that does not open is a line of its own. Both sides begin as whole columns; to compare windows, narrow them (`tableless::own::narrow`) before the first chunk. No argument makes a call
+// fail, and each contract says what every lent entry holds afterwards.
 mod lines;
 
 ghost use mathlib.Core.Path.{_≡_};
@@ -15,6 +15,7 @@ ghost use Rattle.comparison.specs.Chunk.{pairChunk, comparedIn};
 ghost use Rattle.tableless.specs.Own.{ownRow, Owned};
 use format::Column;
 use format::Opened;
+use format::WindowRow;
 use lines::Done;
 use tableless::opening;
 use tableless::own::Own;
@@ -72,20 +73,20 @@ pub fn row_count(left: Column, right: Column) -> u32
     left.window.rows
 }
 
-// Internal: asks for two columns, each opened of its bytes, and a pass over the blocks of each. Writes the lines of the rows from `from` on whose answers differ at the start of a
-// buffer, while a longest line has room. Rows with equal answers take none, so a call that meets no other looks at all that are left.
+// Internal: asks for two columns, each opened of its bytes and seen through a window that lies in it, and a pass over the blocks of each. Writes the lines of the rows from `from` on,
+// counted from the windows' starts, whose answers differ, at the start of a buffer, while a longest line has room. Rows with equal answers take none, so a call that meets no other looks at all that are left.
 pub fn fill_lines(
     left: Own,
     lbytes: &[u8],
     right: Own,
     rbytes: &[u8],
-    from: u32,
+    from: WindowRow,
     out: &mut [u8],
 ) -> Compared
     requires { ⌜ Owned (now lbytes) (left .column) (left .pass) ⌝ }
     requires { ⌜ Owned (now rbytes) (right .column) (right .pass) ⌝ }
-    ensures { λ r. ⌜ r ≡ comparedIn (ownRow (left .column) (now (lbytes .entry))) (ownRow (right .column) (now (rbytes .entry))) (max (left .column .window .rows) (right .column .window .rows)) (length (now (out .entry))) from ⌝ }
-    ensures { λ _. ⌜ now (out .exit) ≡ sets (now (out .entry)) 0 (pairChunk (ownRow (left .column) (now (lbytes .entry))) (ownRow (right .column) (now (rbytes .entry))) (max (left .column .window .rows) (right .column .window .rows)) (length (now (out .entry))) from) ⌝ }
+    ensures { λ r. ⌜ r ≡ comparedIn (ownRow (left .column) (now (lbytes .entry))) (ownRow (right .column) (now (rbytes .entry))) (max (left .column .window .rows) (right .column .window .rows)) (length (now (out .entry))) (from .0) ⌝ }
+    ensures { λ _. ⌜ now (out .exit) ≡ sets (now (out .entry)) 0 (pairChunk (ownRow (left .column) (now (lbytes .entry))) (ownRow (right .column) (now (rbytes .entry))) (max (left .column .window .rows) (right .column .window .rows)) (length (now (out .entry))) (from .0)) ⌝ }
     ensures { λ r. ⌜ Counts (r .bytes) (now (out .exit)) ⌝ }
 {
     let column = left.column;
@@ -95,25 +96,26 @@ pub fn fill_lines(
     let mut rvalues = [0u64; 512];
     let mut lheld = tableless::held::nothing(left.pass);
     let mut rheld = tableless::held::nothing(right.pass);
-    let mut r = from;
+    let mut r = from.0;
     let mut done = Done { lines: 0, bytes: 0 };
     while r < rows {
         if out.len() - done.bytes < LINE_MAX {
             break;
         }
-        if lheld.block != r / 512 {
-            lheld = tableless::held::hold(column, lbytes, r, lheld, &mut lvalues);
+        let row = WindowRow(r);
+        if lheld.end.0 <= r {
+            lheld = tableless::held::hold(column, lbytes, row, lheld, &mut lvalues);
         }
-        if rheld.block != r / 512 {
-            rheld = tableless::held::hold(against, rbytes, r, rheld, &mut rvalues);
+        if rheld.end.0 <= r {
+            rheld = tableless::held::hold(against, rbytes, row, rheld, &mut rvalues);
         }
-        let a = tableless::held::answer(column, lbytes, r, lheld, &lvalues);
-        let b = tableless::held::answer(against, rbytes, r, rheld, &rvalues);
+        let a = tableless::held::answer(column, lbytes, row, lheld, &lvalues);
+        let b = tableless::held::answer(against, rbytes, row, rheld, &rvalues);
         done = lines::put_row(out, done, r, a, b);
         r += 1;
     }
     Compared {
-        rows: r - from,
+        rows: r - from.0,
         lines: done.lines,
         bytes: done.bytes,
     }

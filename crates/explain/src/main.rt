@@ -1,7 +1,6 @@
 // Lists the parts of the column on standard input as text on standard output. The text is the library's, `explanation`; this program moves bytes.
 use explanation::Begun;
 use format::Column;
-use libc::STDIN_FILENO;
 use libc::STDOUT_FILENO;
 
 // Writes the lines of all parts, a bufferful at a time, until none is left or a write fails.
@@ -36,6 +35,6 @@ fn write_explanation(bytes: &[u8]) {
 
 fn main() {
     let mut bytes = files::column_room();
-    let n = io::read_full(STDIN_FILENO, &mut bytes);
+    let n = files::read_input(&mut bytes);
     write_explanation(&bytes[..n]);
 }

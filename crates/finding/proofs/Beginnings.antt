@@ -42,7 +42,7 @@ module _ (read : ℕ → Outcome ℕ) (test : ℕ → Bool) where
           going = record { on = refl; from = omega arith; to = ltb-true _ _ e; few = omega arith };
           based = refl;
           inside = omega arith;
-          sized = tt;
+          sized = λ (s : false ≡ true) many. let z : _≡_ {A = ℕ} 0 1 = cc in absurd (omega arith);
           asked = refl;
           values = [];
           sofar = let none-done : first - first ≡ 0 = omega arith in rw none-done;

@@ -3,3 +3,4 @@
 pub mod Beginnings
 pub mod Scans
 pub mod Ranges
+pub mod Rests

@@ -1,9 +1,10 @@
 -- Loops over a plain list of values, the first being row r: the rows that pass a test. Over any test.
 --     Tallying, tally-starts, tally-more, tally-ends          counting them
 --     Sparing, spare-starts, spare-more, spare-ends           counting the others
---     Gathering, gather-starts, gather-more, gather-ends      gathering them in a buffer
+--     Gathering, gather-starts, gather-more, gather-ends      gathering them over the values
+--     rows-below                                              they are no rows behind the last value's
 -- Assumes nothing.
-use Prim.Native.Nat.{ℕ, _+_, _-_, _<_, _≤_}
+use Prim.Native.Nat.{ℕ, zero, suc, _+_, _-_, _<_, _≤_}
 use mathlib.Core.Path.{_≡_, refl, sym, ap, _∙_}
 use mathlib.Core.Bool.{Bool, true, false}
 use mathlib.Core.List.{List, [], _∷_, _++_, append-assoc, append-nil}
@@ -11,8 +12,9 @@ use native.Mathlib.Nat.{add-zero, zero-add, add-assoc, le-refl}
 use native.Mathlib.Numerals.{add-one}
 use native.Mathlib.Omega.{arith}
 use lib.ListN.{length, take, drop, getD, set, length-set}
-use lib.Seq.{take-suc-set, take-set-le}
+use lib.Seq.{take-suc-set, take-set-le, getD-set-other}
 use Rattle.format.specs.Outcome.{pick}
+use Rattle.format.specs.Word.{AllBelow}
 use Rattle.chunks.specs.Rows.{rowsAmong}
 use Rattle.chunks.proofs.Rows.{rows-next, rows-none}
 
@@ -76,17 +78,18 @@ module _ (test : ℕ → Bool) where
   pub spare-ends : {values : List ℕ} {n i : ℕ} → Sparing values n i → length values ≤ i → (r : ℕ) → length values - n ≡ length (rowsAmong test r values)
   spare-ends {values} {n} {i} f h r = let k : length values - n ≡ f .kept = omega (arith, f .sum, f .most) in k ∙ tally-ends (f .tally) h r
 
-  -- ---- gathering in a buffer
+  -- ---- gathering in the values' own place
 
-  -- the first n entries of a buffer are the rows passed so far that pass the test
-  pub record Gathering (values : List ℕ) (row : ℕ) (kept : List ℕ) (n i : ℕ) : Type 0 where
+  -- the first n entries of a list are the rows passed so far that pass the test, and the values not read yet are as they were
+  pub record Gathering (values : List ℕ) (row : ℕ) (list : List ℕ) (n i : ℕ) : Type 0 where
     pub small : n ≤ i
-    pub most : n ≤ 512
-    pub long : length kept ≡ 512
-    pub rest : take n kept ++ rowsAmong test (row + i) (drop i values) ≡ rowsAmong test row values
+    pub most : i ≤ length values
+    pub long : length list ≡ length values
+    pub unread : (j : ℕ) → i ≤ j → getD list j 0 ≡ getD values j 0
+    pub rest : take n list ++ rowsAmong test (row + i) (drop i values) ≡ rowsAmong test row values
 
-  pub gather-starts : (values : List ℕ) (row : ℕ) (kept : List ℕ) → length kept ≡ 512 → Gathering values row kept 0 0
-  gather-starts values row kept long = record { small = omega arith; most = omega arith; long = long; rest = ap (λ (k : ℕ). rowsAmong test k values) (add-zero row) }
+  pub gather-starts : (values : List ℕ) (row : ℕ) → Gathering values row values 0 0
+  gather-starts values row = record { small = omega arith; most = omega arith; long = refl; unread = λ j h. refl; rest = ap (λ (k : ℕ). rowsAmong test k values) (add-zero row) }
 
   -- a row is put behind those kept, and stays if it passes the test
   gather-by : (t : Bool) (kept : List ℕ) (n x : ℕ) (l : List ℕ) → n < length kept → take (pick t (n + 1) n) (set kept n x) ++ l ≡ take n kept ++ pick t (x ∷ l) l
@@ -96,22 +99,36 @@ module _ (test : ℕ → Bool) where
       ∙ append-assoc (take n kept) (x ∷ []) l
   gather-by false kept n x l h = ap (λ (k : List ℕ). k ++ l) (take-set-le n kept n x (le-refl n))
 
-  pub gather-more : {values : List ℕ} {row : ℕ} {kept : List ℕ} {n i m : ℕ} → Gathering values row kept n i → i < length values → length values ≤ 512
-      → m ≡ pick (test (getD values i 0)) (n + 1) n → Gathering values row (set kept n (row + i)) m (i + 1)
-  gather-more {values} {row} {kept} {n} {i} {m} f h few e =
+  pub gather-more : {values : List ℕ} {row : ℕ} {list : List ℕ} {n i m : ℕ} → Gathering values row list n i → i < length list
+      → m ≡ pick (test (getD list i 0)) (n + 1) n → Gathering values row (set list n (row + i)) m (i + 1)
+  gather-more {values} {row} {list} {n} {i} {m} f h e =
       let t = test (getD values i 0) in
       let l = rowsAmong test (row + i + 1) (drop (i + 1) values) in
+      let told : m ≡ pick t (n + 1) n = e ∙ ap (λ (x : ℕ). pick (test x) (n + 1) n) (f .unread i (le-refl i)) in
       record {
-        small = rw e (tally-small t n i (f .small));
-        most = rw e (omega (arith, tally-small t n i (f .small)));
-        long = simp length-set (f .long);
+        small = rw told (tally-small t n i (f .small));
+        most = omega (arith, f .long);
+        long = length-set list n (row + i) ∙ f .long;
+        unread = λ j later. getD-set-other list n j (row + i) 0 (λ (same : j ≡ n). absurd (omega (arith, f .small))) ∙ f .unread j (omega arith);
         rest =
-            ap (λ (k : ℕ). take m (set kept n (row + i)) ++ rowsAmong test k (drop (i + 1) values)) (sym (behind row i))
-            ∙ ap (λ (k : ℕ). take k (set kept n (row + i)) ++ l) e
-            ∙ gather-by t kept n (row + i) l (omega (arith, f .small, f .long))
-            ∙ ap (λ (k : List ℕ). take n kept ++ k) (sym (rows-next test (row + i) values i h)) ∙ f .rest;
+            ap (λ (k : ℕ). take m (set list n (row + i)) ++ rowsAmong test k (drop (i + 1) values)) (sym (behind row i))
+            ∙ ap (λ (k : ℕ). take k (set list n (row + i)) ++ l) told
+            ∙ gather-by t list n (row + i) l (omega (arith, f .small))
+            ∙ ap (λ (k : List ℕ). take n list ++ k) (sym (rows-next test (row + i) values i (omega (arith, f .long)))) ∙ f .rest;
       }
 
-  pub gather-ends : {values : List ℕ} {row : ℕ} {kept : List ℕ} {n i : ℕ} → Gathering values row kept n i → length values ≤ i → take n kept ≡ rowsAmong test row values
-  gather-ends {values} {row} {kept} {n} {i} f h =
-      sym (append-nil (take n kept)) ∙ ap (λ (l : List ℕ). take n kept ++ l) (sym (rows-none test (row + i) values i h)) ∙ f .rest
+  pub gather-ends : {values : List ℕ} {row : ℕ} {list : List ℕ} {n i : ℕ} → Gathering values row list n i → length values ≤ i → take n list ≡ rowsAmong test row values
+  gather-ends {values} {row} {list} {n} {i} f h =
+      sym (append-nil (take n list)) ∙ ap (λ (l : List ℕ). take n list ++ l) (sym (rows-none test (row + i) values i h)) ∙ f .rest
+
+  -- ---- what is gathered
+
+  below-by : (t : Bool) (r bound : ℕ) (rest : List ℕ) → r < bound → AllBelow bound rest → AllBelow bound (pick t (r ∷ rest) rest)
+  below-by true r bound rest h f zero j = h
+  below-by true r bound rest h f (suc i) j = f i (omega arith)
+  below-by false r bound rest h f i j = f i j
+
+  pub rows-below : (r : ℕ) (vs : List ℕ) (bound : ℕ) → r + length vs ≤ bound → AllBelow bound (rowsAmong test r vs)
+  unfolding rowsAmong
+  rows-below r [] bound h = λ i j. absurd (omega arith)
+  rows-below r (v ∷ vs) bound h = below-by (test v) r bound (rowsAmong test (r + 1) vs) (omega arith) (rows-below (r + 1) vs bound (omega arith))

@@ -1,17 +1,20 @@
-// Looking rows up: a walk whose first pass counts the rows in the range, and whose second stores them.
+// Looking rows up: a walk whose first pass counts the rows in the range, and whose second stores them, reading only where the count leaves open which they are.
 ghost use mathlib.Core.Path.{_≡_};
-ghost use mathlib.Core.Bool.{Bool};
+ghost use mathlib.Core.Bool.{Bool, true};
 ghost use mathlib.Core.List.{List};
-ghost use Prim.Native.Nat.{ℕ, _+_, _/_, _%_, _^_, _≤_, _<_};
-ghost use lib.ListN.{length, take, set};
+ghost use Prim.Native.Nat.{ℕ, _+_, _-_, _/_, _%_, _^_, _≤_, _<_};
+ghost use lib.ListN.{length, take};
 ghost use lib.Seq.{sets};
 ghost use Rattle.format.specs.Outcome.{Outcome, pick};
+ghost use Rattle.format.specs.Word.{AllBelow};
 ghost use Rattle.format.specs.Lookup.{lookedUp, within};
 ghost use Rattle.format.specs.Reading.{blockAt, rowAt};
 ghost use Rattle.format.specs.Calls.{FoundAs};
 ghost use Rattle.chunks.specs.Rows.{rowsAmong};
 ghost use Rattle.finding.specs.Counts.{OutsideOf};
-ghost use Rattle.walks.specs.Walks.{Kept.rowsOf, WalkedAs, nextChunk, Going, left, Walking};
+ghost use Rattle.finding.specs.Rests.{rowsFrom, DoneAs};
+ghost use Rattle.walks.specs.declared.Walked.the-variants.{Entries};
+ghost use Rattle.walks.specs.Walks.{Kept.rowsOf, WalkedAs, nextChunk, Going, left, InPass, Walking};
 use chunks::cut;
 use format::Block;
 use format::Column;
@@ -89,86 +92,55 @@ fn count_within(values: &[u64], low: u64, high: u64) -> usize
     values.len() - count_outside(values, low, span)
 }
 
-// Stores a row at an entry of a list, if the list has it.
-fn put(list: &mut [u32], at: usize, row: u32)
-    ensures { λ _. ⌜ now (list .exit) ≡ set (now (list .entry)) at row ⌝ }
-{
-    if at < list.len() {
-        list[at] = row;
-    }
-}
-
-// Internal: asks for rows below 2^32, 512 of them at most. Puts the rows whose values lie in the range to the front of a buffer, the first value's row being `row`, and returns how many. Each row is put there, and
-// the next one over it if its value lies outside, so that no branch is to be guessed.
-fn gather_rows(values: &[u64], low: u64, high: u64, row: u32, kept: &mut [u32; 512]) -> usize
-    requires { ⌜ (row + length (now values) ≤ 2 ^ 32) × (length (now values) ≤ 512) × (length (now kept) ≡ 512) ⌝ }
-    ensures { λ n. ⌜ (n ≤ 512) × (length (now (kept .exit)) ≡ 512) × (take n (now (kept .exit)) ≡ rowsAmong (within low high) row (now (values .entry))) ⌝ }
+// Internal: asks for rows below 2^32. Puts the rows whose values lie in the range, the first value's row being `row`, over the values, from the front on, and returns how many. Each row is put there,
+// and the next one over it if its value lies outside, so that no branch is to be guessed. No row is put behind its own value, so that the values to come stand as they were.
+fn gather_rows(values: &mut [u64], low: u64, high: u64, row: u32) -> usize
+    requires { ⌜ row + length (now values) ≤ 2 ^ 32 ⌝ }
+    ensures { λ n. ⌜ (n ≤ length (now (values .entry))) × (take n (now (values .exit)) ≡ rowsAmong (within low high) row (now (values .entry))) ⌝ }
 {
     let mut n = 0;
     let mut i = 0;
     while i < values.len() {
-        kept[n] = row + i as u32;
-        n = tallied(n, low, high, values[i]);
+        let value = values[i];
+        values[n] = (row + i as u32) as u64;
+        n = tallied(n, low, high, value);
         i += 1;
     }
     n
 }
 
-// Internal: asks for entries that can be counted. Stores rows from entry `at` on, one by one, as far as the list has entries.
-fn put_rows(rows: &[u32], found: &mut [u32], at: usize)
-    requires { ⌜ at + length (now rows) < 2 ^ 64 ⌝ }
+// Internal: asks for room, and for rows below 2^32. Copies rows into a list from entry `at` on.
+fn copy_rows(rows: &[u64], found: &mut [u32], at: usize)
+    requires { ⌜ (at + length (now rows) ≤ length (now found)) × AllBelow (2 ^ 32) (now rows) ⌝ }
     ensures { λ _. ⌜ now (found .exit) ≡ sets (now (found .entry)) at (now (rows .entry)) ⌝ }
 {
     let mut i = 0;
     while i < rows.len() {
-        put(found, at + i, rows[i]);
+        found[at + i] = rows[i] as u32;
         i += 1;
     }
 }
 
-// Internal: asks for room. Copies rows into a list from entry `at` on.
-fn copy_rows(rows: &[u32], found: &mut [u32], at: usize)
-    requires { ⌜ at + length (now rows) ≤ length (now found) ⌝ }
-    ensures { λ _. ⌜ now (found .exit) ≡ sets (now (found .entry)) at (now (rows .entry)) ⌝ }
-{
-    let mut i = 0;
-    while i < rows.len() {
-        found[at + i] = rows[i];
-        i += 1;
-    }
-}
-
-// Internal: asks for entries that can be counted. Stores rows from entry `at` on, as far as the list has entries: one test for all of them, where it has.
-fn file_rows(rows: &[u32], found: &mut [u32], at: usize)
-    requires { ⌜ at + length (now rows) < 2 ^ 64 ⌝ }
-    ensures { λ _. ⌜ now (found .exit) ≡ sets (now (found .entry)) at (now (rows .entry)) ⌝ }
-{
-    if found.len() < at + rows.len() {
-        put_rows(rows, found, at);
-        return;
-    }
-    copy_rows(rows, found, at);
-}
-
-// Internal: asks for rows below 2^32, 512 of them at most, and no more entries before `at` than rows before `row`. Stores the rows whose values lie in the range, the first value's row being `row`, from entry `at` on, and returns
-// the entry behind them.
+// Internal: asks for rows below 2^32, and no more entries before `at` than rows before `row`. Stores the rows whose values lie in the range, the first value's row being `row`, from entry `at` on, where the list has
+// room for them, and returns the entry behind them. The values are lost.
 fn store_within(
-    values: &[u64],
+    values: &mut [u64],
     low: u64,
     high: u64,
     row: u32,
     found: &mut [u32],
     at: usize,
 ) -> usize
-    requires { ⌜ (row + length (now values) ≤ 2 ^ 32) × (length (now values) ≤ 512) × (at ≤ row) ⌝ }
+    requires { ⌜ (row + length (now values) ≤ 2 ^ 32) × (at ≤ row) ⌝ }
     ensures { λ n. ⌜ n ≡ at + length (rowsAmong (within low high) row (now (values .entry))) ⌝ }
-    ensures { λ _. ⌜ now (found .exit) ≡ sets (now (found .entry)) at (rowsAmong (within low high) row (now (values .entry))) ⌝ }
-    ensures { λ n. ⌜ n ≤ row + length (now (values .entry)) ⌝ }
+    ensures { λ n. ⌜ (n ≤ length (now (found .entry)) → now (found .exit) ≡ sets (now (found .entry)) at (rowsAmong (within low high) row (now (values .entry)))) ⌝ }
 {
-    let mut kept = [0u32; 512];
-    let n = gather_rows(values, low, high, row, &mut kept);
-    file_rows(&kept[..n], found, at);
-    at + n
+    let n = gather_rows(values, low, high, row);
+    let end = at + n;
+    if end <= found.len() {
+        copy_rows(&values[..n], found, at);
+    }
+    end
 }
 
 // How a lookup of the rows from `first` to `end`, cut to a window's rows, begins; where there are none, it is over.
@@ -188,20 +160,20 @@ pub fn begin(window: Window, first: u32, end: u32) -> Walk
     }
 }
 
-// Internal: asks for rows below 2^32, 512 of them at most, and no more entries before `at` than rows before `row`. How many of the rows lie in the range, the first value's row being `row`; in a pass that
-// stores they are stored from entry `at` on.
+// Internal: asks for rows below 2^32, and no more entries before `at` than rows before `row`. How many of the rows lie in the range, the first value's row being `row`; in a pass that stores they are stored
+// from entry `at` on, where the list has room for them, and the values are lost.
 fn keep(
     storing: bool,
-    values: &[u64],
+    values: &mut [u64],
     low: u64,
     high: u64,
     row: u32,
     found: &mut [u32],
     at: usize,
 ) -> usize
-    requires { ⌜ (row + length (now values) ≤ 2 ^ 32) × (length (now values) ≤ 512) × (at ≤ row) ⌝ }
+    requires { ⌜ (row + length (now values) ≤ 2 ^ 32) × (at ≤ row) ⌝ }
     ensures { λ n. ⌜ n ≡ length (rowsAmong (within low high) row (now (values .entry))) ⌝ }
-    ensures { λ _. ⌜ now (found .exit) ≡ pick storing (sets (now (found .entry)) at (rowsAmong (within low high) row (now (values .entry)))) (now (found .entry)) ⌝ }
+    ensures { λ n. ⌜ ((storing ≡ true → at + n ≤ length (now (found .entry))) → now (found .exit) ≡ pick storing (sets (now (found .entry)) at (rowsAmong (within low high) row (now (values .entry)))) (now (found .entry))) ⌝ }
 {
     if !storing {
         return count_within(values, low, high);
@@ -233,8 +205,8 @@ fn step_through(
     walks::behind(w, decoded, size, n, room)
 }
 
-// Internal: asks for a lookup that is going on over rows of the window. One turn: the chunk at hand, with its block out of a table of so many.
-pub fn step(
+// Internal: asks for a lookup that is going on over rows of the window. One turn that reads the chunk at hand, with its block out of a table of so many.
+fn step_reading(
     column: Column,
     blocks: usize,
     block: Block,
@@ -259,6 +231,126 @@ pub fn step(
         high,
         w,
         &mut buffer[..size],
+        found,
+    )
+}
+
+// Internal: asks for a lookup that is going on. Whether the rows left lie in one chunk, and a list with so much room has an entry for each.
+fn is_single(w: Walk, room: usize) -> bool
+    requires { ⌜ Going w ⌝ }
+    ensures { λ r. ⌜ (r ≡ true → (w .end - w .at ≤ 512 - (w .base + w .at) % 512) × (w .end - w .at ≤ room)) ⌝ }
+{
+    let rows = (w.end - w.at) as usize;
+    if walks::chunk_of(w) < rows {
+        return false;
+    }
+    rows <= room
+}
+
+// Internal: asks for a lookup that is going on. While it has found nothing, the rows done are left out of what it walks over, so that the second pass does not come back to them; and where the rows left lie in one chunk,
+// there is no second pass: they are stored as they are found.
+fn trimmed(w: Walk, room: usize) -> Walk
+    requires { ⌜ Going w ⌝ }
+    ensures { λ r. ⌜ Going r × (r .base ≡ w .base) × (r .end ≡ w .end) × (r .at ≡ w .at) × (left r ≤ left w) ⌝ }
+    ensures { λ r. ⌜ ((test : ℕ → Bool) (read : ℕ → Outcome ℕ) (window : Window) (o : Outcome (List ℕ)) (before list : List ℕ) → room ≡ length before → Walking (rowsOf test) read window o before w list → Walking (rowsOf test) read window o before r list) ⌝ }
+{
+    if w.storing {
+        return w;
+    }
+    if w.n != 0 {
+        return w;
+    }
+    let answer = w.answer;
+    let storing = is_single(w, room);
+    Walk {
+        base: w.base,
+        first: w.at,
+        end: w.end,
+        at: w.at,
+        n: 0,
+        storing,
+        going: true,
+        answer,
+    }
+}
+
+// Internal: asks for room, and for rows below 2^32. Stores `n` rows, one after the other, the first being `row`, from entry `at` on.
+fn put_all(found: &mut [u32], at: usize, row: u32, n: usize)
+    requires { ⌜ (at + n ≤ length (now found)) × (row + n ≤ 2 ^ 32) ⌝ }
+    ensures { λ _. ⌜ now (found .exit) ≡ sets (now (found .entry)) at (rowsFrom row n) ⌝ }
+{
+    let mut i = 0;
+    while i < n {
+        found[at + i] = row + i as u32;
+        i += 1;
+    }
+}
+
+// Internal: asks for a lookup that is going on. Whether its second pass, which is to find `total` rows, is done without reading: none is left to find, or as many as there are rows left,
+// which are then stored.
+fn is_done(w: Walk, total: usize, found: &mut [u32]) -> bool
+    requires { ⌜ Going w ⌝ }
+    ensures { λ r. ⌜ ((test : ℕ → Bool) (read : ℕ → Outcome ℕ) (window : Window) (o : Outcome (List ℕ)) (before : List ℕ) → w .storing ≡ true → 512 < w .end - w .first → w .answer ≡ Entries total → InPass (rowsOf test) read window o before w (now (found .entry)) → DoneAs r o (w .answer) before (now (found .entry)) (now (found .exit))) ⌝ }
+{
+    if total <= w.n {
+        return true;
+    }
+    if total - w.n != (w.end - w.at) as usize {
+        return false;
+    }
+    if found.len() < total {
+        return false;
+    }
+    put_all(found, w.n, w.at, total - w.n);
+    true
+}
+
+// Internal: asks for a lookup that is going on. Whether it is done without reading more rows, by what its first pass counted; of one over at most 512 rows this is not asked.
+fn is_told(w: Walk, found: &mut [u32]) -> bool
+    requires { ⌜ Going w ⌝ }
+    ensures { λ r. ⌜ ((test : ℕ → Bool) (read : ℕ → Outcome ℕ) (window : Window) (o : Outcome (List ℕ)) (before : List ℕ) → InPass (rowsOf test) read window o before w (now (found .entry)) → DoneAs r o (w .answer) before (now (found .entry)) (now (found .exit))) ⌝ }
+{
+    if !w.storing {
+        return false;
+    }
+    if w.end - w.first <= 512 {
+        return false;
+    }
+    let answer = w.answer;
+    match answer {
+        Walked::Entries(total) => is_done(w, total, found),
+        Walked::Refused(_) => false,
+    }
+}
+
+// Internal: asks for a lookup that is going on over rows of the window. One turn: the chunk at hand, with its block out of a table of so many, or all that is left, where the count tells it.
+pub fn step(
+    column: Column,
+    blocks: usize,
+    block: Block,
+    bytes: &[u8],
+    low: u64,
+    high: u64,
+    w: Walk,
+    found: &mut [u32],
+) -> Walk
+    requires { ⌜ Going w × (w .base ≡ column .window .first) × (w .end ≤ column .window .rows) ⌝ }
+    ensures { λ r. ⌜ ((table : List Block) (before : List ℕ) (o : Outcome (List ℕ)) → blocks ≡ length table → block ≡ blockAt table ((w .base + w .at) % 2 ^ 32 / 512) → Walking (rowsOf (within low high)) (rowAt column table (now (bytes .entry))) (column .window) o before w (now (found .entry)) → Walking (rowsOf (within low high)) (rowAt column table (now (bytes .entry))) (column .window) o before r (now (found .exit))) ⌝ }
+    ensures { λ r. ⌜ left r < left w ⌝ }
+{
+    if is_told(w, found) {
+        let answer = w.answer;
+        return walks::over(w, answer);
+    }
+    let room = found.len();
+    step_reading(
+        column,
+        blocks,
+        block,
+        bytes,
+        low,
+        high,
+        trimmed(w, room),
         found,
     )
 }

@@ -1,16 +1,17 @@
 -- A number read from the bytes from the area's start on is a Linear column's row: the line plus it is the row's value, if the bounds have it.
 --     value-is, row-is
---     raised-run                  rows whose numbers were raised by the line as a whole
+--     heights-read                rows unpacked into a list, by heights above the low bound
 -- Assumes nothing.
 use Prim.Native.Nat.{ℕ, _+_, _-_, _*_, _^_, _≤_, _<_}
 use mathlib.Core.Path.{_≡_, refl, sym, ap, _∙_}
-use mathlib.Core.Bool.{Bool, _&&_}
+use mathlib.Core.Bool.{Bool, true, false, _&&_}
+use mathlib.Core.Logic.{⊎-elim}
 use mathlib.Core.List.{List, [], _∷_}
 use native.Mathlib.Nat.{add-zero}
 use native.Mathlib.Omega.{arith}
 use lib.Dec.{leb}
 use lib.ListN.{length, take, drop, getD}
-use borrow.Author.Tests.{le-leb}
+use borrow.Author.Tests.{le-leb, lt-leb, leb-true, leb-false}
 use borrow.Rule.Slice.PartAt.{part-to-end}
 use Rattle.format.specs.declared.Block.{Block}
 use Rattle.format.specs.declared.Codec.the-variants.{Linear}
@@ -18,11 +19,10 @@ use Rattle.format.specs.declared.Column.{Column}
 use Rattle.format.specs.declared.Line.{Line}
 use Rattle.format.specs.Outcome.{Outcome.value, _>>_, demand}
 use Rattle.format.specs.Word.{modAdd, modSub}
-use Rattle.format.specs.Runs.{readRun, filledTo}
+use Rattle.format.proofs.Lists.{below-or}
 use Rattle.format.proofs.Words.{add-below}
 use Rattle.bitpacker.specs.Runs.{Unpacked}
-use Rattle.raising.specs.Raising.{Raised, aboveLine}
-use Rattle.raising.proofs.Raises.{run-raised}
+use Rattle.raising.specs.Raising.{aboveLine, reached, ReadBy}
 use Rattle.format.specs.Line.{lineAt}
 use Rattle.format.specs.Packing.{unpack}
 use Rattle.format.specs.Reading.{placeIn, packedOf, valueIn, valueAt}
@@ -40,21 +40,28 @@ module _ (col : Column) (b : Block) (s : List ℕ) (l : Line) (w r : ℕ) (codec
   pub row-is : bounded (col .minimum) (col .minimum + col .gcd * col .count) r (modAdd (lineAt l r) (unpack w (take (length s - col .start) (drop (col .start) s)) r)) ≡ valueAt col b s r
   row-is = value-is refl refl refl refl
 
--- a value no further above the low bound than the high one
-bounded-row : (low high r v w : ℕ) → low ≤ high → high < 2 ^ 64 → v < 2 ^ 64 → modSub v low ≤ high - low → w ≡ modAdd low (modSub v low) → bounded low high r v ≡ value w
-bounded-row low high r v w ordered most fits h e =
-    let a : low ≤ v = omega arith in
-    let b : v ≤ high = omega arith in
-    let is : v ≡ w = omega arith in
-    rw (le-leb low v a, le-leb v high b) (ap value is)
+-- a value between the bounds lies no further above the low one than the high one does
+bounded-is : (low high r v : ℕ) → low ≤ high → high < 2 ^ 64 → v < 2 ^ 64 → bounded low high r v ≡ reached low (high - low) r (modSub v low)
+bounded-is low high r v ordered most fits = by-test (leb (modSub v low) (high - low)) refl
+  where
+    by-test : (t : Bool) → leb (modSub v low) (high - low) ≡ t → bounded low high r v ≡ (demand t 14 (r ∷ []) >> value (modAdd low (modSub v low)))
+    by-test true e =
+        let h : modSub v low ≤ high - low = leb-true (modSub v low) (high - low) e in
+        let a : low ≤ v = omega arith in
+        let b : v ≤ high = omega arith in
+        rw (le-leb low v a, le-leb v high b) (ap value (omega arith))
+    by-test false e =
+        let h : high - low < modSub v low = leb-false (modSub v low) (high - low) e in
+        ⊎-elim
+        (λ (a : v < low). rw (lt-leb low v a))
+        (λ (a : low ≤ v). let b : high < v = omega arith in rw (le-leb low v a, lt-leb v high b))
+        (below-or v low)
 
-pub raised-run : (l : Line) (area : List ℕ) (w low high first n : ℕ) (raw list : List ℕ) → low ≤ high → high < 2 ^ 64 → length raw ≡ n → length list ≡ n
-    → Unpacked w area first n raw → Raised (aboveLine l first low) low (high - low) raw list
-    → filledTo (length list) first list ≡ readRun (λ (r : ℕ). bounded low high r (modAdd (lineAt l r) (unpack w area r))) first n
-raised-run l area w low high first n raw list ordered most long same u r =
-    ap (λ (k : ℕ). filledTo k first list) same
-    ∙ run-raised (λ (q : ℕ). bounded low high q (modAdd (lineAt l q) (unpack w area q))) first n list same
-    (λ (j : ℕ) (h : j < n).
-    let k : j < length raw = omega arith in
-    ap (λ (x : ℕ). bounded low high (first + j) (modAdd (lineAt l (first + j)) x)) (sym (u .sofar j h))
-    ∙ bounded-row low high (first + j) (modAdd (lineAt l (first + j)) (getD raw j 0)) (getD list j 0) ordered most (add-below _ _) (r .within j k) (r .raised j k))
+-- rows unpacked into a list, by the heights of the line and the numbers above the low bound
+pub heights-read : (l : Line) (area : List ℕ) (w low high first n : ℕ) (raw : List ℕ) → low ≤ high → high < 2 ^ 64 → length raw ≡ n → Unpacked w area first n raw
+    → ReadBy (λ (i r v : ℕ). reached low (high - low) r (aboveLine l first low i v)) (λ (r : ℕ). bounded low high r (modAdd (lineAt l r) (unpack w area r))) first raw
+heights-read l area w low high first n raw ordered most long u = record {
+  each = λ (i : ℕ) (h : i < length raw).
+      ap (λ (x : ℕ). bounded low high (first + i) (modAdd (lineAt l (first + i)) x)) (sym (u .sofar i (omega arith)))
+      ∙ bounded-is low high (first + i) (modAdd (lineAt l (first + i)) (getD raw i 0)) ordered most (add-below _ _);
+}

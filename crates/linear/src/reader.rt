@@ -72,41 +72,7 @@ pub fn get_val(column: Column, line: Line, bits: u8, bytes: &[u8], row: ColumnRo
     RowRead::Value(value)
 }
 
-// The values of the rows from `first` on, by a line and the numbers that stand at a width in an area, up to the first that lies outside the bounds.
-fn line_rows(
-    area: &[u8],
-    line: Line,
-    bits: u8,
-    minimum: u64,
-    maximum: u64,
-    first: u32,
-    out: &mut [u64],
-) -> usize
-    requires { ⌜ legal bits ≡ true ⌝ }
-    requires { ⌜ first + length (now out) ≤ 2 ^ 32 ⌝ }
-    ensures { λ n. ⌜ filledTo n first (now (out .exit)) ≡ readRun (λ (r : ℕ). bounded minimum maximum r (modAdd (lineAt line r) (unpack bits (now (area .entry)) r))) first (length (now (out .entry))) ⌝ }
-{
-    let step = bits as usize;
-    let mut bit = first as usize * step;
-    let mut i = 0;
-    while i < out.len() {
-        let row = first + i as u32;
-        let number = bitpacker::get_at(area, bits, bit);
-        let value = word::add(line::eval(line, row as u64), number);
-        if value < minimum {
-            return i;
-        }
-        if maximum < value {
-            return i;
-        }
-        out[i] = value;
-        bit += step;
-        i += 1;
-    }
-    i
-}
-
-// The same rows, for bounds that lie in order. Where they lie fewer than 2^63 apart, the rows are unpacked as a whole and raised by the line as a whole; only where one of them lies outside do they go row by row.
+// Internal: asks for bounds in order. The values of the rows from `first` on, by a line and the numbers that stand at a width in an area, up to the first that lies outside the bounds.
 fn line_run(
     area: &[u8],
     line: Line,
@@ -120,15 +86,8 @@ fn line_run(
     requires { ⌜ first + length (now out) ≤ 2 ^ 32 ⌝ }
     ensures { λ n. ⌜ filledTo n first (now (out .exit)) ≡ readRun (λ (r : ℕ). bounded minimum maximum r (modAdd (lineAt line r) (unpack bits (now (area .entry)) r))) first (length (now (out .entry))) ⌝ }
 {
-    let span = maximum - minimum;
-    if 0x8000_0000_0000_0000 <= span {
-        return line_rows(area, line, bits, minimum, maximum, first, out);
-    }
     bitpacker::get_run(area, bits, first, out);
-    if raising::raise_by_line(out, line, first as u64, minimum, minimum, span) == 0 {
-        return out.len();
-    }
-    line_rows(area, line, bits, minimum, maximum, first, out)
+    raising::raise_by_line(out, line, first as u64, minimum, minimum, maximum - minimum)
 }
 
 // Internal: asks for the same, and for rows below 2^32. The values of the rows from `first` on, as many as the list has room for, up to the first that is out of bounds: returns how many.

@@ -3,7 +3,7 @@ ghost use Prim.Native.Nat.{_≤_};
 ghost use lib.ListN.{length};
 ghost use Rattle.listing.specs.Chunk.{lineMax};
 ghost use Rattle.tableless.specs.Own.{Owned};
-use libc::STDIN_FILENO;
+use format::WindowRow;
 use libc::STDOUT_FILENO;
 use listing::Begun;
 use tableless::own::Own;
@@ -18,8 +18,9 @@ fn write_rows(own: Own, bytes: &[u8], out: &mut [u8]) -> bool
     let mut at = own;
     let mut from = 0;
     while from < column.rows {
-        at = tableless::own::reach(at, bytes, from);
-        let took = listing::fill_lines(at, bytes, from, out);
+        let row = WindowRow(from);
+        at = tableless::own::reach(at, bytes, row);
+        let took = listing::fill_lines(at, bytes, row, out);
         let n = took.bytes;
         if !io::write_all(STDOUT_FILENO, &out[..n]) {
             return false;
@@ -52,6 +53,6 @@ fn write_listing(bytes: &[u8]) {
 
 fn main() {
     let mut bytes = files::column_room();
-    let n = io::read_full(STDIN_FILENO, &mut bytes);
+    let n = files::read_input(&mut bytes);
     write_listing(&bytes[..n]);
 }

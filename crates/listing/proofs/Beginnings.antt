@@ -22,6 +22,7 @@ use Rattle.tableless.specs.Own.{ownFirst, Owned}
 use Rattle.text.specs.Refused.{refusedBy}
 use Rattle.tableless.proofs.Answered.{found-column, found-refusal}
 use Rattle.tableless.proofs.Owns.{owned-first}
+use Rattle.tableless.proofs.Rows.{opens-shows}
 use Rattle.listing.specs.declared.Begun.the-variants.{Column as BegunColumn, Refused as BegunRefused}
 use Rattle.listing.specs.Beginning.{columnLine, begun, BegunAs}
 
@@ -48,5 +49,5 @@ begun-owned {s} {own} {n} {old} {new} f = go (openedHere s) refl (f .answer)
     go : (o : Outcome Loaded) → openedHere s ≡ o → BegunColumn own n ≡ begun s o → Owned s (own .column) (own .pass)
     go (value l) e is =
         let same : own ≡ ownFirst s (l .column) = cc in
-        subst (λ (x : Own). Owned s (x .column) (x .pass)) (sym same) (owned-first (record { found = l; opened = e; column = refl }))
+        subst (λ (x : Own). Owned s (x .column) (x .pass)) (sym same) (owned-first (opens-shows (record { found = l; opened = e; column = refl })))
     go (refusal number also) e is = absurd (let z : _≡_ {A = ℕ} 0 1 = cc in omega arith)

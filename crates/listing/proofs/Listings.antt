@@ -4,19 +4,18 @@
 --     listing-within        each chunk stays in its room
 -- Assumes nothing.
 use Prim.Native.Nat.{ℕ, _-_, _≤_}
-use mathlib.Core.Path.{_≡_, sym, ap, _∙_}
+use mathlib.Core.Path.{_≡_, refl, sym, ap, _∙_}
 use mathlib.Core.List.{List, _++_}
 use native.Mathlib.Omega.{arith}
 use lib.ListN.{length}
 use Rattle.format.specs.Outcome.{Outcome, Outcome.value, Outcome.refusal}
 use Rattle.format.specs.Opening.{Loaded}
 use Rattle.format.specs.Listing.{ascii, namedLine, rowLine, rowLines, openedHere, listed, listedOr, listing}
-use Rattle.format.proofs.Laid.{opened-laid}
 use Rattle.text.specs.Chunk.{chunk, chunks}
 use Rattle.tableless.specs.Own.{ownRow}
 use Rattle.text.proofs.Chunks.{chunk-within, chunks-all}
-use Rattle.tableless.proofs.Limits.{here-opened}
-use Rattle.tableless.proofs.Rows.{own-reads, own-sayable}
+use Rattle.tableless.proofs.Owns.{own-few}
+use Rattle.tableless.proofs.Rows.{own-reads, opens-shows, own-sayable}
 use Rattle.listing.specs.Beginning.{columnLine, firstLine}
 use Rattle.listing.specs.Chunk.{lineMax}
 use Rattle.listing.proofs.RowLines.{row-most}
@@ -40,12 +39,12 @@ module _ (s : List ℕ) (o : Loaded) (found : openedHere s ≡ value o) where
       ∙ (ap (λ (l : List ℕ). columnLine col ++ (l ++ namedLine (ascii "end ") (col .rows)))
       (chunks-all (rowLine (ownRow col s)) lineMax (col .rows) (col .rows) room 0 free (omega arith)
       ∙ ap (rowLines (ownRow col s) 0) all
-      ∙ ap (λ (read : ℕ → Outcome ℕ). rowLines read 0 (col .rows)) (own-reads s o found)))
+      ∙ ap (λ (read : ℕ → Outcome ℕ). rowLines read 0 (col .rows)) (own-reads s o found (o .column))))
       ∙ sym (ap (λ (x : Outcome Loaded). listedOr x s) found)
 
   -- within the room
   pub listing-within : (room r : ℕ) → length (chunk (rowLine (ownRow (o .column) s)) lineMax (o .column .rows) room r) ≤ room
   listing-within room r =
-      let laid = opened-laid s 2048 o (here-opened s o found) in
+      let shows = opens-shows (record { found = o; opened = found; column = refl }) in
       chunk-within (rowLine (ownRow (o .column) s)) lineMax (o .column .rows) room r
-      (λ i h. row-most (ownRow (o .column) s) i (omega (arith, laid .head .few)) (own-sayable s o found i))
+      (λ i h. row-most (ownRow (o .column) s) i (omega (arith, own-few shows)) (own-sayable shows i))

@@ -14,6 +14,7 @@ ghost use Rattle.text.specs.Chunk.{chunk, filled};
 ghost use Rattle.tableless.specs.Own.{ownRow, Owned};
 use format::Column;
 use format::Opened;
+use format::WindowRow;
 use tableless::own::Own;
 use text::Filled;
 use text::lines::named_line;
@@ -41,32 +42,33 @@ pub fn begin(bytes: &[u8], line: &mut [u8; 128]) -> Begun
     Begun::Column(own, lines::column_line(column, line))
 }
 
-// Internal: asks for a column that was opened of these bytes, and a pass over its blocks. Writes the lines of the rows from `from` on at the start of a buffer, while a longest
+// Internal: asks for a column that was opened of these bytes, seen through a window that lies in it, and a pass over its blocks. Writes the lines of the rows from `from` on at the start of a buffer, while a longest
 // line has room. A row that is refused has a line that says so.
-pub fn fill_lines(own: Own, bytes: &[u8], from: u32, out: &mut [u8]) -> Filled
+pub fn fill_lines(own: Own, bytes: &[u8], from: WindowRow, out: &mut [u8]) -> Filled
     requires { ⌜ Owned (now bytes) (own .column) (own .pass) ⌝ }
-    ensures { λ r. ⌜ r ≡ filled (rowLine (ownRow (own .column) (now (bytes .entry)))) lineMax (own .column .rows) (length (now (out .entry))) from ⌝ }
-    ensures { λ _. ⌜ now (out .exit) ≡ sets (now (out .entry)) 0 (chunk (rowLine (ownRow (own .column) (now (bytes .entry)))) lineMax (own .column .rows) (length (now (out .entry))) from) ⌝ }
+    ensures { λ r. ⌜ r ≡ filled (rowLine (ownRow (own .column) (now (bytes .entry)))) lineMax (own .column .rows) (length (now (out .entry))) (from .0) ⌝ }
+    ensures { λ _. ⌜ now (out .exit) ≡ sets (now (out .entry)) 0 (chunk (rowLine (ownRow (own .column) (now (bytes .entry)))) lineMax (own .column .rows) (length (now (out .entry))) (from .0)) ⌝ }
     ensures { λ r. ⌜ Counts (r .bytes) (now (out .exit)) ⌝ }
 {
     let column = own.column;
     let mut values = [0u64; 512];
     let mut held = tableless::held::nothing(own.pass);
-    let mut r = from;
+    let mut r = from.0;
     let mut at = 0;
     while r < column.rows {
         if out.len() - at < LINE_MAX {
             break;
         }
-        if held.block != r / 512 {
-            held = tableless::held::hold(column, bytes, r, held, &mut values);
+        let row = WindowRow(r);
+        if held.end.0 <= r {
+            held = tableless::held::hold(column, bytes, row, held, &mut values);
         }
-        let answer = tableless::held::answer(column, bytes, r, held, &values);
+        let answer = tableless::held::answer(column, bytes, row, held, &values);
         at = lines::put_row(out, at, r, answer);
         r += 1;
     }
     Filled {
-        rows: r - from,
+        rows: r - from.0,
         bytes: at,
     }
 }

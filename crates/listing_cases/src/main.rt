@@ -3,6 +3,7 @@ ghost use Prim.Native.Nat.{_<_};
 ghost use lib.ListN.{length};
 ghost use Rattle.tableless.specs.Own.{Owned};
 use cases::length_at;
+use format::WindowRow;
 use libc::STDOUT_FILENO;
 use listing::Begun;
 use tableless::own::Own;
@@ -12,7 +13,7 @@ fn show_rows(own: Own, bytes: &[u8], from: u32) -> u32
     requires { ⌜ Owned (now bytes) (own .column) (own .pass) ⌝ }
 {
     let mut out = io::buffer();
-    let took = listing::fill_lines(own, bytes, from, &mut out);
+    let took = listing::fill_lines(own, bytes, WindowRow(from), &mut out);
     let n = took.bytes;
     io::write_all(STDOUT_FILENO, &out[..n]);
     took.rows

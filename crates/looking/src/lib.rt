@@ -1,13 +1,13 @@
 // Looking at a chunk whose values are not asked for: where no number of a row's width can bring a value out of bounds, the bits are not read at all.
 ghost use mathlib.Core.Path.{_≡_};
 ghost use mathlib.Core.Bool.{true};
-ghost use Prim.Native.Nat.{_+_, _-_, _*_, _/_, _%_, _^_, _≤_, _<_};
+ghost use Prim.Native.Nat.{_+_, _*_, _%_, _^_, _≤_, _<_};
 ghost use Rattle.format.specs.Packing.{width};
-ghost use Rattle.format.specs.Reading.{rowIn};
+ghost use Rattle.format.specs.Reading.{placeOf, rowIn};
 ghost use Rattle.format.specs.Runs.{readRun};
 ghost use Rattle.reading.specs.declared.reader.Decoded.the-variants.{Whole};
-ghost use Rattle.reading.specs.Chunks.{Chunk};
-ghost use Rattle.looking.specs.Looks.{LookedAs, Sure, Near};
+ghost use Rattle.reading.specs.Chunks.{Chunk, Fitting};
+ghost use Rattle.looking.specs.Looks.{LookedAs, Sure, Stands, Gentle, Near, Counted, multiplesOf};
 use format::Block;
 use format::Codec;
 use format::Column;
@@ -36,39 +36,33 @@ fn is_full(count: u64) -> bool
     power(bits) - 1 <= count
 }
 
-// Internal: asks for a place below 2^32. Whether a line of this slope rises, and by a product below 2^63 up to that place.
-fn is_rising(slope: u64, to: u64) -> bool
+// Internal: asks for a place below 2^32. Whether a line of this slope goes one way up to that place: it rises, or falls, by a product below 2^63.
+fn is_gentle(slope: u64, to: u64) -> bool
     requires { ⌜ to < 2 ^ 32 ⌝ }
-    ensures { λ r. ⌜ (r ≡ true → to * slope < 2 ^ 63) ⌝ }
+    ensures { λ r. ⌜ (r ≡ true → Gentle slope to) ⌝ }
 {
-    slope <= 0x7fff_ffff_ffff_ffff / (to + 1)
+    word::lesser(slope, word::sub(0, slope)) <= 0x7fff_ffff_ffff_ffff / (to + 1)
 }
 
-// Internal: asks for a product below 2^63. How far a line of this slope rises from place 0 to a place.
-fn climb(place: u64, slope: u64) -> u64
-    requires { ⌜ place * slope < 2 ^ 63 ⌝ }
-    ensures { λ r. ⌜ (r ≡ place * slope / 2 ^ 32) × (r < 2 ^ 31) ⌝ }
-{
-    place * slope / 0x1_0000_0000
-}
-
-// Internal: asks for places in order, below 2^32. Whether a line that rises, with any number of so many bits, lies from one place to another no more than `span` above `low`; of a line that falls this is not told.
+// Internal: asks for places in order, below 2^32. Whether a line, with any number of so many bits, lies from one place to another no more than `span` above `low`: by its two ends, where it goes one way
+// between them and starts and ends above `low`.
 fn is_near(line: Line, bits: u64, from: u64, to: u64, low: u64, span: u64) -> bool
     requires { ⌜ (from ≤ to) × (to < 2 ^ 32) ⌝ }
     ensures { λ r. ⌜ (r ≡ true → Near line bits from to low span) ⌝ }
 {
-    let slope = line.slope;
     if 56 < bits {
         return false;
     }
-    if !is_rising(slope, to) {
+    if !is_gentle(line.slope, to) {
         return false;
     }
     let start = word::sub(line::eval(line, from), low);
-    if 0x4000_0000_0000_0000 <= start {
+    let end = word::sub(line::eval(line, to), low);
+    let top = word::larger(start, end);
+    if 0x4000_0000_0000_0000 <= top {
         return false;
     }
-    start + (climb(to, slope) - climb(from, slope)) + power(bits) <= span
+    top + (power(bits) - 1) <= span
 }
 
 // Internal: asks for rows of a column, in one block, whose maximum has 64 bits. Whether each of the rows has a value, whatever its bits are, by the codec.
@@ -98,7 +92,60 @@ fn is_sure(column: Column, block: Block, first: u32, size: u32) -> bool
     }
 }
 
-// Internal: asks for a chunk. Whether all of its rows have values, as far as that is told by its last row and the column alone.
+// Whether a column of this codec has a value wherever a multiple is up to the count.
+fn is_counted(codec: Codec) -> bool
+    ensures { λ r. ⌜ (r ≡ true → Counted codec) ⌝ }
+{
+    match codec {
+        Codec::Bitpacked => true,
+        Codec::Linear(_, _) => false,
+        Codec::Blockwise => true,
+    }
+}
+
+// The column whose values are another's multiples.
+fn multiples(column: Column) -> Column
+    ensures { λ r. ⌜ r ≡ multiplesOf column ⌝ }
+{
+    let window = column.window;
+    let codec = column.codec;
+    Column {
+        minimum: 0,
+        gcd: 1,
+        count: column.count,
+        rows: column.rows,
+        start: column.start,
+        size: column.size,
+        window,
+        codec,
+    }
+}
+
+// Internal: asks for rows of one block that fit as a whole. Whether each has a value, as its multiple tells, where that is less work than its value: true only if so.
+fn is_within(column: Column, block: Block, bytes: &[u8], first: ColumnRow, size: usize) -> bool
+    requires { ⌜ Chunk (column .rows) 0 (first .0) size ⌝ }
+    requires { ⌜ Fitting column (placeOf column block (first .0)) (now bytes) ⌝ }
+    ensures { λ r. ⌜ (r ≡ true → Stands column block (now (bytes .entry)) (first .0) size) ⌝ }
+{
+    if column.gcd <= 1 {
+        return false;
+    }
+    let codec = column.codec;
+    if !is_counted(codec) {
+        return false;
+    }
+    let mut buffer = [0u64; 512];
+    let n = reading::reader::decode_fitting(
+        multiples(column),
+        block,
+        bytes,
+        first,
+        &mut buffer[..size],
+    );
+    n == size
+}
+
+// Internal: asks for a chunk. Whether all of its rows have values: as its last row and the column alone tell, or their multiples.
 fn is_whole(
     column: Column,
     blocks: usize,
@@ -114,7 +161,10 @@ fn is_whole(
     match reading::reader::row_in(column, blocks, block, bytes, last) {
         RowRead::Value(_) => {
             let at = reading::reader::column_row(column.window.first, WindowRow(first));
-            is_sure(column, block, at.0, size)
+            if is_sure(column, block, at.0, size) {
+                return true;
+            }
+            is_within(column, block, bytes, at, size as usize)
         }
         RowRead::Refused(_) => false,
     }

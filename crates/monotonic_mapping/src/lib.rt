@@ -1,8 +1,9 @@
-// Signed numbers, dates, bools and floats as stored numbers: one value of a lent list, a row's answer read back, and the range of stored
+// Signed numbers, dates, bools and floats as stored numbers: one value of a lent list, a row's answer and a list read back, and the range of stored
 // numbers that a lookup by values goes by.
 ghost use mathlib.Core.Path.{_≡_};
 ghost use Rattle.format.specs.Refusals.{rowMeaning, signedMeaning, flagMeaning, floatMeaning};
 ghost use Rattle.format.specs.Typed.{storedSigned, signedOf, flagOf, storedFloat, floatOf, storedIn, readAs, signedRange, flagRange, floatRange};
+ghost use Rattle.monotonic_mapping.specs.Words.{wordOf, wordsAs};
 ghost use Rattle.monotonic_mapping.specs.Flips.{isNumber, isFlag, isFloat, flip, flipped, mostStored};
 use format::FlagRead;
 use format::FloatRead;
@@ -136,6 +137,30 @@ pub fn float_of(stored: u64) -> u64
         u64::MAX - stored
     } else {
         stored - SIGN
+    }
+}
+
+// The word of the value that a stored number of a kind reads as: as the value is lent in a list.
+fn word_of(kind: Kind, stored: u64) -> u64
+    ensures { λ r. ⌜ r ≡ wordOf kind stored ⌝ }
+{
+    match kind {
+        Kind::U64 => stored,
+        Kind::I64 => word::add(stored, SIGN),
+        Kind::Date => word::add(stored, SIGN),
+        Kind::Bool => word::lesser(stored, 1),
+        Kind::F64 => float_of(stored),
+    }
+}
+
+// A list of stored numbers to the words of their values, in place. The kind does not change in the loop, so the compiler makes a loop for each, and none for plain numbers.
+pub fn words_as(kind: Kind, list: &mut [u64])
+    ensures { λ _. ⌜ now (list .exit) ≡ wordsAs kind (now (list .entry)) ⌝ }
+{
+    let mut i = 0;
+    while i < list.len() {
+        list[i] = word_of(kind, list[i]);
+        i += 1;
     }
 }
 

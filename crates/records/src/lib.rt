@@ -114,7 +114,7 @@ fn fill(bytes: &[u8], rows: u32, table: &mut [Block])
     let mut c = blockwise_linear::reader::first(bytes, rows);
     let mut k: usize = 0;
     while 0 < c.left {
-        let step = blockwise_linear::reader::next_block(bytes, c);
+        let step = blockwise_linear::short::next_block(bytes, c);
         table[k] = step.block;
         c = step.next;
         k += 1;

@@ -51,7 +51,7 @@ module _ (s recording : List ℕ) {r : Opened} (answer : openedMeaning r ≡ col
         let e = found-column s answer is in
         let o = e .found in
         ap (λ (x : Outcome Loaded). reportOr x s recording) (e .opened)
-        ∙ ap (λ (read : ℕ → Outcome ℕ). reportLine (replayedHere read (o .column .window .rows) recording)) (sym (own-reads s o (e .opened)))
+        ∙ ap (λ (read : ℕ → Outcome ℕ). reportLine (replayedHere read (o .column .window .rows) recording)) (sym (own-reads s o (e .opened) (o .column)))
         ∙ ap (λ (k : Column). reportLine (replayedHere (ownRow k s) (k .window .rows) recording)) (e .column)
 
     pub reported-long : {n : ℕ} {old new : List ℕ} → 262144 < length recording → Wrote old 0 (namedLine (ascii "recording refused ") 16) new n → Wrote old 0 (report s recording) new n

@@ -17,8 +17,9 @@ use Rattle.replaying.specs.declared.walking.Walk.{Walk}
 use Rattle.replaying.specs.Walking.{Replaying}
 use Rattle.replaying.proofs.Walks.{is-on-hand}
 use Rattle.tableless.specs.declared.own.Own.{Own}
-use Rattle.tableless.specs.Own.{tableOf, ownRow, blockRows, ownFirst, ownAt, Opens, Owned}
-use Rattle.tableless.proofs.Owns.{own-few, own-count, own-blocks, own-block, owned-first, owned-at, same-row}
+use Rattle.tableless.specs.Own.{tableOf, ownRow, blockRows, ownFirst, blockOf, ownAt, Opens, Shows, Owned}
+use Rattle.tableless.proofs.Owns.{own-blocks, owned-first, owned-at, own-moved, own-row-block}
+use Rattle.tableless.proofs.Rows.{opens-shows}
 
 -- the column with a pass over its blocks, and a replay under way by the opening's own blocks
 pub record Running (s : List ℕ) (c : Column) (recording : List ℕ) (own : Own) (w : Walk) : Type 0 where
@@ -28,26 +29,26 @@ pub record Running (s : List ℕ) (c : Column) (recording : List ℕ) (own : Own
 
 pub running-starts : {s : List ℕ} {c : Column} {recording : List ℕ} {own : Own} {w : Walk} → Opens s c → own ≡ ownFirst s c → Replaying (ownRow c s) (c .window .rows) recording w → Running s c recording own w
 running-starts {s} opens is begun =
-    record { column = ap (λ (o : Own). o .column) is; owned = subst (λ (o : Own). Owned s (o .column) (o .pass)) (sym is) (owned-first opens); replay = begun }
+    record { column = ap (λ (o : Own). o .column) is; owned = subst (λ (o : Own). Owned s (o .column) (o .pass)) (sym is) (owned-first (opens-shows opens)); replay = begun }
 
 module _ {s : List ℕ} {c : Column} {recording : List ℕ} {own : Own} {w : Walk} (f : Running s c recording own w) where
-  -- the column's opening
-  opens : Opens s c
-  opens = subst (λ (k : Column). Opens s k) (f .column) (f .owned .opens)
+  -- the column is seen through a window that lies in it
+  shows : Shows s c
+  shows = subst (λ (k : Column). Shows s k) (f .column) (f .owned .shows)
 
-  module _ (on : w .going ≡ true) {next : Own} (is : next ≡ ownAt s (own .column) (w .at)) where
-    there : next ≡ ownAt s c (w .at)
-    there = is ∙ ap (λ (k : Column). ownAt s k (w .at)) (f .column)
+  module _ (on : w .going ≡ true) {next : Own} (is : next ≡ ownAt s (own .column) (blockOf (own .column) (w .at))) where
+    there : next ≡ ownAt s c (blockOf c (w .at))
+    there = is ∙ ap (λ (k : Column). ownAt s k (blockOf k (w .at))) (f .column)
 
-    -- the chunk at hand is one of the column's rows, and its block the table's
-    inside : w .at < c .rows
+    -- the chunk at hand is one of the window's rows, and its block the table's
+    inside : w .at < c .window .rows
     inside = let g = is-on-hand _ _ _ _ (f .replay) on .going in
-        omega (arith, g .to, g .inside, own-count opens)
+        omega (arith, g .to, g .inside)
 
     at-hand : next .pass .block ≡ blockAt (tableOf (openedHere s)) (columnRow c (w .at) % 2 ^ 32 / 512)
     at-hand =
-        let here : w .at / 512 ≡ columnRow c (w .at) % 2 ^ 32 / 512 = omega (arith, same-row opens (w .at), own-few opens, inside) in
-        ap (λ (o : Own). o .pass .block) there ∙ own-block opens (w .at) inside ∙ ap (blockAt (tableOf (openedHere s))) here
+        ap (λ (o : Own). o .pass .block) there ∙ own-row-block shows inside
+        ∙ ap (λ (q : ℕ). blockAt (tableOf (openedHere s)) (q / 512)) (sym (own-moved shows inside))
 
     pub running-again : {blocks : ℕ} {later : Walk} → blocks ≡ blockCount (blockRows c)
         → ((table : List Block) → blocks ≡ length table → next .pass .block ≡ blockAt table (columnRow c (w .at) % 2 ^ 32 / 512)
@@ -56,6 +57,6 @@ module _ {s : List ℕ} {c : Column} {recording : List ℕ} {own : Own} {w : Wal
     running-again count step =
         record {
           column = ap (λ (o : Own). o .column) there;
-          owned = subst (λ (o : Own). Owned s (o .column) (o .pass)) (sym there) (owned-at opens (w .at));
-          replay = step (tableOf (openedHere s)) (count ∙ own-blocks opens) at-hand (f .replay);
+          owned = subst (λ (o : Own). Owned s (o .column) (o .pass)) (sym there) (owned-at shows (blockOf c (w .at)));
+          replay = step (tableOf (openedHere s)) (count ∙ own-blocks shows) at-hand (f .replay);
         }

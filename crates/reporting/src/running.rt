@@ -5,6 +5,7 @@ ghost use Rattle.format.specs.Replaying.{replayed};
 ghost use Rattle.tableless.specs.Own.{ownRow, Opens};
 use format::Column;
 use format::Replayed;
+use format::WindowRow;
 
 // Internal: asks for a column that was opened of these bytes. Runs the recorded lookups one after another, up to the first whose rows are not the recorded ones. The pass goes
 // on with each lookup, and back to the start for one that begins before it.
@@ -16,7 +17,7 @@ pub(crate) fn replay(column: Column, bytes: &[u8], recording: &[u8]) -> Replayed
     let mut own = tableless::own::begin(bytes, column);
     let mut w = replaying::walking::begin(column.window.rows, recording);
     while w.going {
-        own = tableless::own::reach(own, bytes, w.at);
+        own = tableless::own::reach(own, bytes, WindowRow(w.at));
         let block = own.pass.block;
         w = replaying::walking::step(column, blocks, block, bytes, recording, w);
     }

@@ -1,1 +1,2 @@
 mod Multiples
+mod Counting

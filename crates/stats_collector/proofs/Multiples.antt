@@ -1,8 +1,8 @@
 -- The gcd of a multiple.
---     gcd-multiple            the gcd of a number and of one that divides it is the latter
---     stays-one, stays        a gcd that is 1, or divides the next number, stays
+--     gcd-multiple                 the gcd of a number and of one that divides it is the latter
+--     stays-one, stays-multiple    a gcd that is 1, or divides the next number, stays
 -- Assumes nothing.
-use Prim.Native.Nat.{ℕ, zero, suc, _%_, _<_}
+use Prim.Native.Nat.{ℕ, zero, suc, _%_}
 use mathlib.Core.Path.{_≡_, sym, ap, _∙_}
 use native.Mathlib.Nat.{mod-zero, zero-lt-suc}
 use Rattle.format.specs.Stats.{gcd}
@@ -15,5 +15,5 @@ gcd-multiple a (suc b) e = gcd-turn a (suc b) (zero-lt-suc b) ∙ ap (gcd (suc b
 pub stays-one : (a g : ℕ) → g ≡ 1 → g ≡ gcd a g
 stays-one a g e = e ∙ sym (gcd-one a) ∙ ap (gcd a) (sym e)
 
-pub stays : (a d g : ℕ) → d ≡ a → d % g ≡ 0 → g ≡ gcd a g
-stays a d g e m = sym (gcd-multiple a g (ap (λ (n : ℕ). n % g) (sym e) ∙ m))
+pub stays-multiple : (a d g : ℕ) → d ≡ a → d % g ≡ 0 → g ≡ gcd a g
+stays-multiple a d g e m = sym (gcd-multiple a g (ap (λ (n : ℕ). n % g) (sym e) ∙ m))

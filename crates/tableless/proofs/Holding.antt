@@ -12,12 +12,13 @@ use lib.ListN.{length, getD, List·getD-append}
 use Rattle.format.specs.declared.Column.{Column}
 use Rattle.format.specs.Listing.{openedHere}
 use Rattle.format.specs.Outcome.{Outcome, Outcome.value}
-use Rattle.format.specs.Reading.{blockAt}
+use Rattle.format.specs.Reading.{columnRow, blockAt}
+use Rattle.reading.specs.Chunks.{chunkSize}
 use Rattle.blockwise_linear.specs.declared.passing.Pass.{Pass}
 use Rattle.tableless.specs.declared.held.Held.{Held}
 use Rattle.tableless.specs.Holding.{Values, Holds, HoldsAt}
-use Rattle.tableless.specs.Own.{tableOf, ownRow, passAt, Opens, Owned, AtRow}
-use Rattle.tableless.proofs.Owns.{own-few, own-block, owned-at}
+use Rattle.tableless.specs.Own.{tableOf, ownRow, blockOf, passAt, Shows, Owned, AtRow}
+use Rattle.tableless.proofs.Owns.{own-row-block, owned-at}
 
 module _ (read : ℕ → Outcome ℕ) (r : ℕ) where
   pub values-none : (values : List ℕ) → length values ≡ 512 → Values read r 0 values
@@ -29,31 +30,36 @@ module _ (read : ℕ → Outcome ℕ) (r : ℕ) where
       record { long = long; few = few; each = λ j below. let h : j < length front = omega arith in each j h ∙ ap value (sym (List·getD-append front rest 0 j h)) }
 
 module _ {s : List ℕ} {c : Column} {values : List ℕ} where
-  pub holds-nothing : {p : Pass} (h : Held) → Owned s c p → h .pass ≡ p → h .block ≡ 4294967295 → h .count ≡ 0 → length values ≡ 512 → Holds s c h values
+  pub holds-nothing : {p : Pass} (h : Held) → Owned s c p → h .pass ≡ p → h .end .0 ≡ 0 → h .count ≡ 0 → length values ≡ 512 → Holds s c h values
   holds-nothing h own same none zero room =
       record {
         own = subst (λ (p : Pass). Owned s c p) (sym same) own;
-        block = λ r inside e. absurd (omega (arith, own-few (own .opens)));
-        rows = subst (λ (n : ℕ). Values (ownRow c s) (h .first) n values) (sym zero) (values-none (ownRow c s) (h .first) values room);
+        block = λ r from below. absurd (omega arith);
+        rows = subst (λ (n : ℕ). Values (ownRow c s) (h .first .0) n values) (sym zero) (values-none (ownRow c s) (h .first .0) values room);
       }
 
-  pub holds-chunk : {p : Pass} {r n : ℕ} → Opens s c → r < c .rows → p ≡ passAt s c r → Values (ownRow c s) r n values
-      → HoldsAt s c r (record { pass = p; block = r / 512; first = r; count = n }) values
-  holds-chunk {p} {r} {n} e inside is rows =
+  -- the chunk that begins with row r, of so many rows
+  pub holds-chunk : {r size : ℕ} (h : Held) → Shows s c → r < c .window .rows → size ≡ chunkSize (columnRow c r) (c .window .rows - r)
+      → h .pass ≡ passAt s c (blockOf c r) → h .first .0 ≡ r → h .end .0 ≡ r + size → Values (ownRow c s) (h .first .0) (h .count) values
+      → HoldsAt s c r h values
+  holds-chunk {r} {size} h e inside long is first end rows =
       record {
         holds = record {
-          own = subst (λ (p : Pass). Owned s c p) (sym is) (owned-at e r);
-          block = λ q there alike. ap (λ (p : Pass). p .block) is ∙ own-block e r inside ∙ ap (blockAt (tableOf (openedHere s))) (sym alike);
+          own = subst (λ (p : Pass). Owned s c p) (sym is) (owned-at e (blockOf c r));
+          block = λ q from below.
+              let alike : columnRow c r / 512 ≡ columnRow c q / 512 = omega arith in
+              ap (λ (p : Pass). p .block) is ∙ own-row-block e inside ∙ ap (blockAt (tableOf (openedHere s))) alike;
           rows = rows;
         };
-        at = λ _. refl;
+        from = omega arith;
+        at = λ _. omega (arith, long, inside);
       }
 
   module _ {h : Held} {row : ℕ} where
-    pub held-row : Holds s c h values → h .first ≤ row → row - h .first < h .count → value (getD values (row - h .first) 0) ≡ ownRow c s row
-    held-row f low below =
-        let here : h .first + (row - h .first) ≡ row = omega arith in
-        sym (ap (ownRow c s) (sym here) ∙ f .rows .each (row - h .first) below)
+    pub held-row : HoldsAt s c row h values → row - h .first .0 < h .count → value (getD values (row - h .first .0) 0) ≡ ownRow c s row
+    held-row f below =
+        let here : h .first .0 + (row - h .first .0) ≡ row = omega (arith, f .from) in
+        sym (ap (ownRow c s) (sym here) ∙ f .holds .rows .each (row - h .first .0) below)
 
-    pub held-at : HoldsAt s c row h values → row < c .rows → AtRow s c (h .pass .block) row
-    held-at f inside = record { opens = f .holds .own .opens; inside = inside; block = f .holds .block row inside (f .at inside) }
+    pub held-at : HoldsAt s c row h values → row < c .window .rows → AtRow s c (h .pass .block) row
+    held-at f inside = record { shows = f .holds .own .shows; inside = inside; block = f .holds .block row (f .from) (f .at inside) }

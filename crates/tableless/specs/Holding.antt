@@ -7,7 +7,7 @@ use lib.ListN.{length, getD}
 use Rattle.format.specs.declared.Column.{Column}
 use Rattle.format.specs.Listing.{openedHere}
 use Rattle.format.specs.Outcome.{Outcome, Outcome.value}
-use Rattle.format.specs.Reading.{blockAt}
+use Rattle.format.specs.Reading.{columnRow, blockAt}
 use Rattle.tableless.specs.declared.held.Held.{Held}
 use Rattle.tableless.specs.Own.{tableOf, ownRow, Owned}
 
@@ -20,10 +20,11 @@ pub record Values (read : ℕ → Outcome ℕ) (r n : ℕ) (values : List ℕ) :
 -- a list holds what is said, and the block at hand is that of the rows said
 pub record Holds (s : List ℕ) (c : Column) (h : Held) (values : List ℕ) : Type 0 where
   pub own : Owned s c (h .pass)
-  pub block : (r : ℕ) → r < c .rows → r / 512 ≡ h .block → h .pass .block ≡ blockAt (tableOf (openedHere s)) (r / 512)
-  pub rows : Values (ownRow c s) (h .first) (h .count) values
+  pub block : (r : ℕ) → h .first .0 ≤ r → r < h .end .0 → h .pass .block ≡ blockAt (tableOf (openedHere s)) (columnRow c r / 512)
+  pub rows : Values (ownRow c s) (h .first .0) (h .count) values
 
--- .. and that is the block of a row, if it is one of the column's
+-- .. from a row on or before it, and that is one of them, if it is one of the window's
 pub record HoldsAt (s : List ℕ) (c : Column) (r : ℕ) (h : Held) (values : List ℕ) : Type 0 where
   pub holds : Holds s c h values
-  pub at : r < c .rows → r / 512 ≡ h .block
+  pub from : h .first .0 ≤ r
+  pub at : r < c .window .rows → r < h .end .0

@@ -1,2 +1,3 @@
 pub mod Making
+pub mod Differing
 pub mod Reporting

@@ -11,7 +11,7 @@ use format::Kind;
 use format::Refusal;
 use format::Stated;
 use format::Written;
-use writing::choice::Best;
+use writing::choice::Choice;
 use writing::choice::Place;
 
 // The statistics of some values.
@@ -50,8 +50,8 @@ pub fn serialize_as(kind: Kind, values: &[u64], codecs: &[u8], out: &mut [u8]) -
         return Written::Refused(Refusal::UnknownCodec { place });
     }
     let stats = stats_collector::collect(kind, values);
-    match writing::choice::choose(kind, values, stats, codecs) {
-        Best::Nothing => Written::Refused(Refusal::NoCodecApplies),
-        Best::Least { codec, size: _ } => writing::writer::put(kind, values, stats, codec, out),
+    match writing::choice::codec_for(kind, values, stats, codecs) {
+        Choice::Nothing => Written::Refused(Refusal::NoCodecApplies),
+        Choice::By(codec) => writing::writer::put(kind, values, stats, codec, out),
     }
 }

@@ -1,11 +1,13 @@
 -- A walk under way: how it goes on behind a chunk, and ends. Over any reading.
 --     chunk-based, block-based                               the chunk at hand and its block, as the column counts
 --     goes-on, turns-over, all-stored, too-short, none-found behind a chunk
+--     has-room                                               for the chunk's entries, where the pass stores
 --     refuses                                                at a refused row
 --     falls-looking, falls-on, falls-over                    what is left
 --     ended, is-passing, is-over                             the phase by what the state says
---     left-as                                                the list, by what storing was told
+--     left-as, stores-whole                                  the list, by what storing was told, and what that tells of the chunk
 --     kept-long, passing-long, passing-run                   a lent list is as long as it was, and a run's as its rows
+--     nothing, more-stored                                   a list of no entries, and what was stored with more behind it
 -- Assumes nothing.
 use Prim.Native.Nat.{ℕ, suc, _+_, _-_, _/_, _%_, _^_, _<_, _≤_}
 use mathlib.Core.Path.{_≡_, refl, sym, ap, _∙_, subst}
@@ -17,23 +19,25 @@ use native.Mathlib.Omega.{arith}
 use lib.Dec.{leb}
 use lib.ListN.{length, set, length-append}
 use lib.Seq.{sets, length-sets}
-use borrow.Author.Tests.{le-leb, lt-leb}
+use borrow.Author.Tests.{le-leb, lt-leb, leb-true}
 use Rattle.format.specs.declared.Block.{Block}
 use Rattle.format.specs.declared.Refusal.{Refusal}
 use Rattle.format.specs.declared.Window.{Window}
 use Rattle.format.specs.declared.Refusal.the-variants.{ListShort}
-use Rattle.format.specs.Outcome.{Outcome, Outcome.value, Outcome.refusal, _>>=_, _>>_, demand, pick, stored}
+use Rattle.format.specs.Outcome.{Outcome, Outcome.value, Outcome.refusal, _>>=_, _>>_, demand, pick, howMany, stored}
 use Rattle.format.specs.Reading.{blockAt}
 use Rattle.format.specs.Refusals.{numbered, paper}
 use Rattle.format.specs.Runs.{readRun}
-use Rattle.format.proofs.Outcomes.{not-value}
+use Rattle.format.proofs.Outcomes.{not-value, value-same, by-step, by-demand}
 use Rattle.format.proofs.Runs.{run-long, run-after, run-refused}
 use Rattle.format.proofs.Tests.{when, unless, as-unless}
+use Rattle.reading.specs.declared.reader.Decoded.{Decoded}
+use Rattle.reading.specs.declared.reader.Decoded.the-variants.{Whole, Refused as NotDecoded}
 use Rattle.reading.specs.Chunks.{chunkSize}
 use Rattle.walks.specs.declared.Walk.{Walk}
 use Rattle.walks.specs.declared.Walked.{Walked}
 use Rattle.walks.specs.declared.Walked.the-variants.{Entries, Refused}
-use Rattle.walks.specs.Walks.{Kept, Kept.allValues, Kept.rowsOf, entries, kept, WalkedAs, nextChunk, Going, left, Single, Unrefused, InPass, Walking}
+use Rattle.walks.specs.Walks.{Kept, Kept.allValues, Kept.rowsOf, entries, kept, walkedMeaning, WalkedAs, nextChunk, Going, left, stores, Sized, Single, Unrefused, InPass, Walking}
 use Rattle.chunks.proofs.Chunks.{chunk-to}
 use Rattle.chunks.proofs.Rows.{rows-few, rows-joined}
 
@@ -50,7 +54,7 @@ few allValues r vs = omega arith
 few (rowsOf test) r vs = rows-few test r vs
 
 -- a list of no entries
-nothing : (l : List ℕ) → length l ≡ 0 → l ≡ []
+pub nothing : (l : List ℕ) → length l ≡ 0 → l ≡ []
 nothing [] e = refl
 nothing (x ∷ l) e = absurd (omega arith)
 
@@ -105,6 +109,11 @@ pub left-as : {k : Kept} {read : ℕ → Outcome ℕ} {window : Window} {o : Out
     → Walking k read window o before w (pick t xs ys) → Walking k read window o before w list
 left-as xs ys e told f = rw (e, told) f
 
+-- a chunk that is stored has its values
+pub stores-whole : (w : Walk) (d : Decoded) → stores w d ≡ true → (d ≡ Whole) × (w .storing ≡ true)
+stores-whole w Whole e = (refl, e)
+stores-whole w (NotDecoded x) e = let z : _≡_ {A = ℕ} 0 1 = cc in absurd (omega arith)
+
 -- a lent list is as long as it was
 stored-long : (o : Outcome (List ℕ)) (list : List ℕ) → length (stored o list) ≡ length list
 stored-long (value xs) list = length-sets list 0 xs
@@ -133,7 +142,7 @@ sets-behind list i [] ys = ap (λ (k : ℕ). sets list k ys) (sym (add-zero i))
 sets-behind list i (x ∷ xs) ys = sets-behind (set list i x) (suc i) xs ys ∙ ap (λ (k : ℕ). sets (sets (set list i x) (suc i) xs) k ys) (suc-add i (length xs) ∙ sym (add-suc i (length xs)))
 
 -- what was stored before, and a chunk more
-more-stored : (t : Bool) (before list us vs : List ℕ) (n : ℕ) → n ≡ length us → list ≡ pick t (sets before 0 us) before → pick t (sets list n vs) list ≡ pick t (sets before 0 (us ++ vs)) before
+pub more-stored : (t : Bool) (before list us vs : List ℕ) (n : ℕ) → n ≡ length us → list ≡ pick t (sets before 0 us) before → pick t (sets list n vs) list ≡ pick t (sets before 0 (us ++ vs)) before
 more-stored true before list us vs n long e = rw (e, long) (sym (sets-behind before 0 us vs ∙ ap (λ (i : ℕ). sets (sets before 0 us) i vs) (zero-add (length us))))
 more-stored false before list us vs n long e = e
 
@@ -141,6 +150,11 @@ more-stored false before list us vs n long e = e
 held : (t : Bool) (number : ℕ) (also xs found : List ℕ) → (demand t number also >> value xs) ≡ value found → (demand t number also >> value xs) ≡ value xs
 held true number also xs found e = refl
 held false number also xs found e = absurd (not-value e)
+
+-- a second pass has its answer, be it counted or not asked for
+counted : (k : Kept) (rows room : ℕ) (t : Bool) (a b : Walked) (o : Outcome (List ℕ)) → Sized k rows room t a o → walkedMeaning b ≡ howMany o → Sized k rows room true b o
+counted allValues rows room t a b o f e = f
+counted (rowsOf test) rows room t a b o f e = λ s many. e
 
 module _ (k : Kept) (read : ℕ → Outcome ℕ) {window : Window} {o : Outcome (List ℕ)} {before list : List ℕ} {w : Walk} (f : InPass k read window o before w list) (size : ℕ) (chunk : size ≡ nextChunk w) where
   -- the chunk comes behind the rows done
@@ -165,9 +179,29 @@ module _ (k : Kept) (read : ℕ → Outcome ℕ) {window : Window} {o : Outcome 
     stored-so-far : pick (w .storing) (sets list (w .n) (entries k (w .at) vs)) list ≡ pick (w .storing) (sets before 0 (entries k (w .first) (f .values ++ vs))) before
     stored-so-far = rw all-entries (more-stored (w .storing) before list (entries k (w .first) (f .values)) (entries k (w .at) vs) (w .n) (f .count) (f .list-is))
 
-    pub goes-on : w .at + size < w .end → (a : Walked)
-        → InPass k read window o before (record { base = w .base; first = w .first; end = w .end; at = w .at + size; n = w .n + n; storing = w .storing; going = true; answer = a }) (pick (w .storing) (sets list (w .n) (entries k (w .at) vs)) list)
-    goes-on h a =
+    -- a pass that stores has room for the chunk's entries
+    pub has-room : w .storing ≡ true → w .n + n ≤ length before
+    has-room e =
+        let to = chunk-to (w .base + w .at) (w .at) (w .end) size (f .going .to) chunk in
+        let far : w .end - w .first ≡ ((w .at - w .first) + size) + (w .end - (w .at + size)) = omega (arith, f .going .from, to) in
+        ⊎-elim
+        (λ (one : Single (length before) w).
+        omega (arith, one .begins, one .enough, to, f .count, few k (w .first) (f .values), run-long read (w .first) (w .at - w .first) (f .values) (f .sofar), m, few k (w .at) vs, run-long read (w .at) size vs run))
+        (λ (good : Unrefused o).
+        by-step (readRun read (w .first) (w .end - w .first)) (kept k (length before) (w .first)) (sym (f .asked) ∙ good .is)
+        (λ us all kept-is.
+        by-demand (leb (length (entries k (w .first) us)) (length before)) 15 (length (entries k (w .first) us) ∷ []) (value (entries k (w .first) us)) kept-is
+        (λ fits same.
+        by-step (readRun read (w .first + ((w .at - w .first) + size)) (w .end - (w .at + size))) (λ (l : List ℕ). value ((f .values ++ vs) ++ l))
+        (sym (run-after read (w .first) ((w .at - w .first) + size) (w .end - (w .at + size)) (f .values ++ vs) longer) ∙ ap (readRun read (w .first)) (sym far) ∙ all)
+        (λ ws later is.
+        let parts : entries k (w .first) us ≡ entries k (w .first) (f .values ++ vs) ++ entries k (w .first + length (f .values ++ vs)) ws = ap (entries k (w .first)) (sym (value-same is)) ∙ joined k (w .first) (f .values ++ vs) ws in
+        omega (arith, all-count, ap length parts, length-append (entries k (w .first) (f .values ++ vs)) (entries k (w .first + length (f .values ++ vs)) ws), leb-true (length (entries k (w .first) us)) (length before) fits)))))
+        (f .clean e)
+
+    pub goes-on : w .at + size < w .end
+        → InPass k read window o before (record { base = w .base; first = w .first; end = w .end; at = w .at + size; n = w .n + n; storing = w .storing; going = true; answer = w .answer }) (pick (w .storing) (sets list (w .n) (entries k (w .at) vs)) list)
+    goes-on h =
         let far : w .at + size - w .first ≡ (w .at - w .first) + size = omega (arith, f .going .from) in
         let most : n ≤ size = omega (arith, m, few k (w .at) vs, run-long read (w .at) size vs run) in
         record {
@@ -229,23 +263,24 @@ module _ (k : Kept) (read : ℕ → Outcome ℕ) {window : Window} {o : Outcome 
             let is : o ≡ value [] = all-kept (omega arith) ∙ ap value (nothing _ (sym all-count ∙ h)) in
             record { answer = rw is refl; list = untouched ∙ rw is refl }
 
-        pub turns-over : w .n + n ≤ length before → (a : Walked)
-            → InPass k read window o before (record { base = w .base; first = w .first; end = w .end; at = w .first; n = 0; storing = true; going = true; answer = a }) (pick (w .storing) (sets list (w .n) (entries k (w .at) vs)) list)
+        pub turns-over : w .n + n ≤ length before
+            → InPass k read window o before (record { base = w .base; first = w .first; end = w .end; at = w .first; n = 0; storing = true; going = true; answer = Entries (w .n + n) }) (pick (w .storing) (sets list (w .n) (entries k (w .at) vs)) list)
         unfolding readRun
-        turns-over h a =
+        turns-over h =
+            let is : o ≡ value (entries k (w .first) (f .values ++ vs)) = all-kept h in
             let none-done : w .first - w .first ≡ 0 = omega arith in
             let empty : entries k (w .first) [] ≡ [] = nothing _ (omega (arith, few k (w .first) [])) in
             record {
               going = record { on = refl; from = omega arith; to = omega (arith, f .going .from, f .going .to); few = omega arith };
               based = f .based;
               inside = f .inside;
-              sized = f .sized;
+              sized = counted k (w .end - w .first) (length before) (w .storing) (w .answer) (Entries (w .n + n)) o (f .sized) (ap value all-count ∙ rw is refl);
               asked = f .asked;
               values = [];
               sofar = rw none-done;
               count = rw empty refl;
               list-is = untouched ∙ rw empty refl;
-              clean = λ s. inr (record { found = entries k (w .first) (f .values ++ vs); is = all-kept h });
+              clean = λ s. inr (record { found = entries k (w .first) (f .values ++ vs); is = is });
             }
 
   -- ---- at a refused row

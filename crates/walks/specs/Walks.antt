@@ -32,11 +32,6 @@ abbrev pub entries : Kept → (r : ℕ) (values : List ℕ) → List ℕ
 entries allValues r values = values
 entries (rowsOf test) r values = rowsAmong test r values
 
--- the list of a run is as long as its rows
-abbrev pub Sized : Kept → (rows room : ℕ) → Type 0
-Sized allValues rows room = room ≡ rows
-Sized (rowsOf test) rows room = Unit {0}
-
 -- storing the entries for some values into a list with so much room
 abbrev pub kept : Kept → (room r : ℕ) (values : List ℕ) → Outcome (List ℕ)
 kept k room r values =
@@ -81,6 +76,11 @@ abbrev pub stores : Walk → Decoded → Bool
 stores w Whole = w .storing
 stores w (NotDecoded x) = false
 
+-- the sizes that are known: the list of a run is as long as its rows, and a lookup over more than 512 rows that stores has its answer, since it has counted
+abbrev pub Sized : Kept → (rows room : ℕ) (storing : Bool) (answer : Walked) (o : Outcome (List ℕ)) → Type 0
+Sized allValues rows room storing answer o = room ≡ rows
+Sized (rowsOf test) rows room storing answer o = storing ≡ true → 512 < rows → walkedMeaning answer ≡ howMany o
+
 -- it lies in one chunk, at its beginning, and a list of such a length has room for an entry a row
 pub record Single (room : ℕ) (w : Walk) : Type 0 where
   pub begins : w .at ≡ w .first
@@ -97,7 +97,7 @@ pub record InPass (k : Kept) (read : ℕ → Outcome ℕ) (window : Window) (o :
   pub going : Going w
   pub based : w .base ≡ window .first
   pub inside : w .end ≤ window .rows
-  pub sized : Sized k (w .end - w .first) (length before)
+  pub sized : Sized k (w .end - w .first) (length before) (w .storing) (w .answer) o
   pub asked : o ≡ walked k read (w .first) (w .end) (length before)
   pub values : List ℕ
   pub sofar : readRun read (w .first) (w .at - w .first) ≡ value values

@@ -24,7 +24,7 @@ pub enum Walked {
 }
 
 // A walk under way: in the pass at hand, the rows before `at` are done, and `n` entries were found for them. While it is going on, it stores or only looks; then
-// its answer stands. Row 0 is row `base` of the column.
+// its answer stands. A lookup that has turned to its second pass has its answer before it is over. Row 0 is row `base` of the column.
 pub struct Walk {
     pub base: u32,
     pub first: u32,
@@ -113,7 +113,7 @@ fn advanced(w: Walk, size: usize, n: usize, room: usize) -> Walk
         n: 0,
         storing: true,
         going: true,
-        answer,
+        answer: Walked::Entries(total),
     }
 }
 

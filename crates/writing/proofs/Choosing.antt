@@ -4,6 +4,7 @@
 --     known-each, third                                              where none is found, each byte names a codec; the third one
 --     walked-starts, walked-same, walked-more                        one listed codec further
 --     Choosing, choosing-starts, choosing-next, choosing-ends        the walk for the least
+--     names-none, names-best, alone, names-only                      the codec of the least, and of a list that holds Blockwise alone
 -- Assumes nothing.
 use Prim.Native.Nat.{ℕ, zero, suc, _+_, _≤_, _<_}
 use mathlib.Core.Path.{_≡_, refl, sym, ap, _∙_}
@@ -18,15 +19,18 @@ use borrow.Author.Tests.{leb-true, leb-false, le-leb, lt-leb}
 use lib.Dec.{leb}
 use lib.ListN.{length, getD, drop, drop-of-length-le}
 use lib.Seq.{drop-cons}
+use Rattle.format.specs.declared.Codec.{Codec}
+use Rattle.format.specs.declared.Codec.the-variants.{Blockwise}
 use Rattle.format.specs.declared.ColumnStats.{ColumnStats}
 use Rattle.format.specs.Outcome.{Outcome.value, Outcome.refusal, pick}
-use Rattle.format.specs.Writing.{Sized, sizeOf, smaller, chosen, known}
+use Rattle.format.specs.Writing.{Sized, sizeOf, smaller, chosen, known, codecOf}
 use Rattle.format.proofs.Outcomes.{by-demand}
-use Rattle.writing.specs.declared.choice.Best.the-variants.{Nothing}
+use Rattle.writing.specs.declared.choice.Best.the-variants.{Nothing, Least}
 use Rattle.writing.specs.declared.choice.Best.{Best}
+use Rattle.writing.specs.declared.choice.Choice.the-variants.{Nothing as Neither, By}
 use Rattle.writing.specs.declared.choice.Met.{Met}
 use Rattle.writing.specs.declared.choice.Walk.{Walk}
-use Rattle.writing.specs.Choice.{bestMeaning, Apt, Stands, sizedBy, metIn, marking, Walked}
+use Rattle.writing.specs.Choice.{bestMeaning, Apt, Stands, Names, sizedBy, metIn, marking, Walked}
 
 -- the list from i on, before its end
 next : (cs : List ℕ) (i : ℕ) → i < length cs → drop i cs ≡ getD cs i 0 ∷ drop (i + 1) cs
@@ -203,3 +207,22 @@ module _ {s : ColumnStats} {vs cs : List ℕ} {w : Walk} {i : ℕ} (f : Choosing
         means = sym (smaller-none (bestMeaning (w .best))) ∙ ap (λ (l : List ℕ). smaller (bestMeaning (w .best)) (chosen size l)) (sym (drop-of-length-le cs h)) ∙ f .rest;
         apt = f .walked .apt;
       }
+
+-- ---- the codec of a choice
+
+pub names-none : {vs : List ℕ} {o : Option Sized} {b : Best} → Stands vs o b → b ≡ Nothing → Names vs (codecOf o) Neither
+names-none best is = record { means = ap (λ (b : Best). codecOf (bestMeaning b)) (sym is) ∙ ap codecOf (best .means); apt = tt }
+
+pub names-best : {vs : List ℕ} {o : Option Sized} {b : Best} {codec : Codec} {size : ℕ} → Stands vs o b → b ≡ Least codec size → Names vs (codecOf o) (By codec)
+names-best best is = record { means = ap (λ (b : Best). codecOf (bestMeaning b)) (sym is) ∙ ap codecOf (best .means); apt = rw is at (best .apt) }
+
+-- Blockwise applies to any values
+pub names-only : (s : ColumnStats) (vs cs : List ℕ) → cs ≡ 2 ∷ [] → Names vs (codecOf (chosen (λ c. sizeOf c s vs) cs)) (By Blockwise)
+unfolding chosen sizeOf
+names-only s vs cs is = rw is (record { means = refl; apt = tt })
+
+-- a list of one
+pub alone : (cs : List ℕ) {c : ℕ} → length cs ≡ 1 → getD cs 0 0 ≡ c → cs ≡ c ∷ []
+alone [] one is = absurd (omega arith)
+alone (d ∷ []) one is = ap (λ (e : ℕ). e ∷ []) is
+alone (d ∷ e ∷ cs) one is = absurd (omega arith)

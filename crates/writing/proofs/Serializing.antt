@@ -6,8 +6,7 @@
 -- Assumes nothing.
 use Prim.Native.Nat.{ℕ, suc, _+_, _^_, _≤_, _<_}
 use mathlib.Core.Path.{_≡_, sym, ap, _∙_, subst}
-use mathlib.Core.Option.{Option, none, some}
-use mathlib.Core.List.{List, _∷_}
+use mathlib.Core.List.{List, [], _∷_}
 use native.Mathlib.Omega.{arith}
 use borrow.Author.Tests.{le-leb, lt-leb, lt-ltb, le-ltb}
 use lib.ListN.{length, set}
@@ -16,19 +15,19 @@ use Rattle.format.specs.declared.ColumnStats.{ColumnStats}
 use Rattle.format.specs.declared.Kind.the-variants.{U64}
 use Rattle.format.specs.declared.Refusal.the-variants.{TooManyValues, UnknownCodec, NoCodecApplies, OutputShort}
 use Rattle.format.specs.declared.Written.the-variants.{Length, Refused}
-use Rattle.format.specs.Outcome.{Outcome, Wrote}
+use Rattle.format.specs.Outcome.{Outcome, Outcome.value, Outcome.refusal, Wrote}
 use Rattle.format.specs.Stats.{statsOf}
 use Rattle.format.specs.Listing.{codeOf}
 use Rattle.format.specs.Bodies.{columnBy}
-use Rattle.format.specs.Writing.{Sized, sizeOf, chosen, known, written}
+use Rattle.format.specs.Writing.{sizeOf, chosen, known, codecOf, written}
 use Rattle.format.specs.Typed.{storedAs}
 use Rattle.format.proofs.Outcomes.{told}
 use Rattle.format.proofs.StoredLists.{stored-numbers}
-use Rattle.writing.specs.declared.choice.Best.{Best}
-use Rattle.writing.specs.declared.choice.Best.the-variants.{Nothing, Least}
+use Rattle.writing.specs.declared.choice.Choice.{Choice}
+use Rattle.writing.specs.declared.choice.Choice.the-variants.{Nothing, By}
 use Rattle.writing.specs.declared.choice.Place.{Place}
 use Rattle.writing.specs.declared.choice.Place.the-variants.{At, Nowhere}
-use Rattle.writing.specs.Choice.{placeMeaning, bestMeaning, AptCodec, Stands}
+use Rattle.writing.specs.Choice.{placeMeaning, choiceMeaning, AptCodec, Names}
 use Rattle.writing.specs.Writing.{lent}
 use Rattle.format.specs.Calls.{StoresAs, SerializedAs}
 
@@ -51,8 +50,8 @@ put-behind code bytes old needed e h w =
 
 -- ---- the entry point
 
-pub chosen-apt : {vs : List ℕ} {o : Option Sized} {b : Best} {codec : Codec} {size : ℕ} → Stands vs o b → b ≡ Least codec size → AptCodec vs codec
-chosen-apt best is = rw is at (best .apt)
+pub chosen-apt : {vs : List ℕ} {o : Outcome ℕ} {c : Choice} {codec : Codec} → Names vs o c → c ≡ By codec → AptCodec vs codec
+chosen-apt named is = rw is at (named .apt)
 
 module _ (vs cs old : List ℕ) where
   pub too-many : 2 ^ 32 ≤ length vs → SerializedAs (written vs cs (length old)) (Refused TooManyValues) old old
@@ -66,21 +65,21 @@ module _ (vs cs old : List ℕ) where
         let found = told placeMeaning sought is in
         record { answer = rw (lt-ltb (length vs) (2 ^ 32) few, found); list = rw (lt-ltb (length vs) (2 ^ 32) few, found) }
 
-    module _ (nowhere : p ≡ Nowhere) {s : ColumnStats} (stats : s ≡ statsOf vs) {b : Best} (best : Stands vs (chosen (λ c. sizeOf c s vs) cs) b) where
-      choice : chosen (λ c. sizeOf c (statsOf vs) vs) cs ≡ bestMeaning b
-      choice = rw (← stats) (sym (best .means))
+    module _ (nowhere : p ≡ Nowhere) {s : ColumnStats} (stats : s ≡ statsOf vs) {b : Choice} (named : Names vs (codecOf (chosen (λ c. sizeOf c s vs) cs)) b) where
+      choice : codecOf (chosen (λ c. sizeOf c (statsOf vs) vs) cs) ≡ choiceMeaning b
+      choice = rw (← stats) (sym (named .means))
 
       pub none-applies : b ≡ Nothing → SerializedAs (written vs cs (length old)) (Refused NoCodecApplies) old old
       unfolding written
       none-applies is =
-          let chose : chosen (λ c. sizeOf c (statsOf vs) vs) cs ≡ none = choice ∙ ap bestMeaning is in
+          let chose : codecOf (chosen (λ c. sizeOf c (statsOf vs) vs) cs) ≡ refusal 3 [] = choice ∙ ap choiceMeaning is in
           record { answer = rw (lt-ltb (length vs) (2 ^ 32) few, told placeMeaning sought nowhere, chose); list = rw (lt-ltb (length vs) (2 ^ 32) few, told placeMeaning sought nowhere, chose) }
 
-      pub written-by : {codec : Codec} {size : ℕ} {said : Outcome ℕ} {new : List ℕ} → b ≡ Least codec size
+      pub written-by : {codec : Codec} {said : Outcome ℕ} {new : List ℕ} → b ≡ By codec
           → StoresAs (lent (columnBy (codeOf codec) vs) (length old)) said old new → StoresAs (written vs cs (length old)) said old new
       unfolding written
-      written-by {codec} {size} is left =
-          let chose : chosen (λ c. sizeOf c (statsOf vs) vs) cs ≡ some (record { codec = codeOf codec; size = size }) = choice ∙ ap bestMeaning is in
+      written-by {codec} is left =
+          let chose : codecOf (chosen (λ c. sizeOf c (statsOf vs) vs) cs) ≡ value (codeOf codec) = choice ∙ ap choiceMeaning is in
           rw (lt-ltb (length vs) (2 ^ 32) few, told placeMeaning sought nowhere, chose) left
 
 -- numbers are stored as they are

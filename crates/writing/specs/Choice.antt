@@ -14,6 +14,8 @@ use Rattle.format.specs.Writing.{Sized, sized, sizeOf, smaller}
 use Rattle.linear_estimator.specs.Writer.{Fits}
 use Rattle.writing.specs.declared.choice.Best.{Best}
 use Rattle.writing.specs.declared.choice.Best.the-variants.{Nothing, Least}
+use Rattle.writing.specs.declared.choice.Choice.{Choice}
+use Rattle.writing.specs.declared.choice.Choice.the-variants.{Nothing as Neither, By}
 use Rattle.writing.specs.declared.choice.Met.{Met}
 use Rattle.writing.specs.declared.choice.Place.{Place}
 use Rattle.writing.specs.declared.choice.Place.the-variants.{At, Nowhere}
@@ -44,6 +46,21 @@ Apt vs (Least codec size) = AptCodec vs codec
 pub record Stands (vs : List ℕ) (found : Option Sized) (b : Best) : Type 0 where
   pub means : bestMeaning b ≡ found
   pub apt : Apt vs b
+
+-- the codec of a choice; none is refused
+abbrev pub choiceMeaning : Choice → Outcome ℕ
+choiceMeaning Neither = refusal 3 []
+choiceMeaning (By codec) = value (codeOf codec)
+
+-- it can be written by, if there is one
+abbrev pub AptChoice : List ℕ → Choice → Type 0
+AptChoice vs Neither = Unit {0}
+AptChoice vs (By codec) = AptCodec vs codec
+
+-- an answer names the codec that was to be found, and it can be written by
+pub record Names (vs : List ℕ) (found : Outcome ℕ) (c : Choice) : Type 0 where
+  pub means : choiceMeaning c ≡ found
+  pub apt : AptChoice vs c
 
 -- a listed codec with its size
 abbrev pub sizedBy : ColumnStats → List ℕ → (code : ℕ) → Option Sized

@@ -1,15 +1,16 @@
 // The choice of a codec: the smallest of those listed, and of equals the one that is listed first.
 //
 // One walk over the list is enough, and a codec is sized where it is met first: a codec that is not listed costs no pass over the values, and a
-// repeat none either, for its first occurrence stands before it with the same size.
+// repeat none either, for its first occurrence stands before it with the same size. Blockwise, where it is the only one, is not sized at all.
 ghost use mathlib.Core.Path.{_≡_};
-ghost use mathlib.Core.List.{List};
+ghost use mathlib.Core.Bool.{true};
+ghost use mathlib.Core.List.{List, [], _∷_};
 ghost use Prim.Native.Nat.{ℕ, _≤_};
 ghost use Rattle.format.specs.Outcome.{Outcome.value};
-ghost use Rattle.format.specs.Writing.{sizeOf, smaller, chosen, known};
+ghost use Rattle.format.specs.Writing.{sizeOf, smaller, chosen, known, codecOf};
 ghost use Rattle.format.specs.Typed.{storedAs};
 ghost use Rattle.stats.specs.Asked.{Describes};
-ghost use Rattle.writing.specs.Choice.{placeMeaning, bestMeaning, Apt, Stands, sizedBy, metIn, marking, Walked};
+ghost use Rattle.writing.specs.Choice.{placeMeaning, bestMeaning, Apt, Stands, Names, sizedBy, metIn, marking, Walked};
 use format::Codec;
 use format::ColumnStats;
 use format::Kind;
@@ -24,6 +25,12 @@ pub enum Place {
 pub enum Best {
     Nothing,
     Least { codec: Codec, size: u64 },
+}
+
+// The codec of a choice, if one applies.
+pub enum Choice {
+    Nothing,
+    By(Codec),
 }
 
 // The codecs that a walk over the list has met.
@@ -165,8 +172,8 @@ fn advance(kind: Kind, values: &[u64], stats: ColumnStats, walk: Walk, code: u8)
     }
 }
 
-// Internal: asks for the values' own statistics, and that each byte of the list names a codec. The listed codec that takes least.
-pub fn choose(kind: Kind, values: &[u64], stats: ColumnStats, codecs: &[u8]) -> Best
+// The listed codec that takes least, with its size.
+fn choose(kind: Kind, values: &[u64], stats: ColumnStats, codecs: &[u8]) -> Best
     requires { ⌜ Describes stats (storedAs kind (now values)) ⌝ }
     requires { ⌜ known 0 (now codecs) ≡ value tt ⌝ }
     ensures { λ r. ⌜ Stands (storedAs kind (now (values .entry))) (chosen (λ c. sizeOf c stats (storedAs kind (now (values .entry)))) (now (codecs .entry))) r ⌝ }
@@ -185,4 +192,30 @@ pub fn choose(kind: Kind, values: &[u64], stats: ColumnStats, codecs: &[u8]) -> 
         i += 1;
     }
     walk.best
+}
+
+// Whether a list is told to hold Blockwise alone; one that is told does.
+fn only_blockwise(codecs: &[u8]) -> bool
+    ensures { λ r. ⌜ (r ≡ true → now (codecs .entry) ≡ 2 ∷ []) ⌝ }
+{
+    if codecs.len() == 1 {
+        return codecs[0] == 2;
+    }
+    false
+}
+
+// Internal: asks for the values' own statistics, and that each byte of the list names a codec. The listed codec that takes least. To size Blockwise
+// is to fit every block, which writing does again, so it is spared where there is nothing to compare.
+pub fn codec_for(kind: Kind, values: &[u64], stats: ColumnStats, codecs: &[u8]) -> Choice
+    requires { ⌜ Describes stats (storedAs kind (now values)) ⌝ }
+    requires { ⌜ known 0 (now codecs) ≡ value tt ⌝ }
+    ensures { λ r. ⌜ Names (storedAs kind (now (values .entry))) (codecOf (chosen (λ c. sizeOf c stats (storedAs kind (now (values .entry)))) (now (codecs .entry)))) r ⌝ }
+{
+    if only_blockwise(codecs) {
+        return Choice::By(Codec::Blockwise);
+    }
+    match choose(kind, values, stats, codecs) {
+        Best::Nothing => Choice::Nothing,
+        Best::Least { codec, size: _ } => Choice::By(codec),
+    }
 }

@@ -7,7 +7,7 @@ use std::sync::Arc;
 
 use crate::iter::Iter;
 use crate::raw::{self, Block, Numbers, View};
-use crate::value::{stored_range, words_of_stored};
+use crate::value::stored_range;
 use crate::write::BLOCK;
 use crate::{Codec, Error, Sheet, Stats, Value, ffi};
 
@@ -462,7 +462,7 @@ fn packed_width(count: u64) -> u32 {
 pub(crate) fn read_run<T: Value>(view: View<'_>, first: u32, out: &mut [T]) -> Result<(), Error> {
     if let Some(words) = T::words_mut(out) {
         view.run(first, words)?;
-        words_of_stored(T::KIND, words);
+        ffi::values_as(T::KIND, words);
         return Ok(());
     }
     let (mut few, mut many) = ([0; BLOCK as usize], Vec::new());

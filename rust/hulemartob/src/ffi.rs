@@ -11,7 +11,7 @@ use std::ops::Range;
 use std::slice;
 
 use crate::raw::{Block, Numbers, View};
-use crate::{Date, Error, Kind, Part, Replay, Stats};
+use crate::{Date, Difference, Error, Kind, Part, Replay, Stats};
 
 /// A refusal's number, 0 for none, and the value that it also returns.
 type Refusal = [u64; 2];
@@ -38,6 +38,9 @@ unsafe extern "C" {
         low: u64, high: u64, first: u32, end: u32, found: *mut u32, found_len: usize, refusal: &mut Refusal) -> usize;
     fn hulemartob_replay(column: &Numbers, table: *const Block, table_len: usize, bytes: *const u8, bytes_len: usize,
         recording: *const u8, recording_len: usize, report: &mut [u64; 2], refusal: &mut Refusal);
+    fn hulemartob_difference(left: &Numbers, ltable: *const Block, ltable_len: usize, lbytes: *const u8, lbytes_len: usize,
+        right: &Numbers, rtable: *const Block, rtable_len: usize, rbytes: *const u8, rbytes_len: usize,
+        from: u32, differing: &mut [u64; 7], refusal: &mut Refusal);
     fn hulemartob_part_at(column: &Numbers, bytes: *const u8, bytes_len: usize, offset: usize, part: &mut [u64; 5], refusal: &mut Refusal);
     fn hulemartob_rows_at(column: &Numbers, table: *const Block, table_len: usize, bytes: *const u8, bytes_len: usize,
         offset: usize, rows: &mut [u64; 2], refusal: &mut Refusal);
@@ -48,6 +51,7 @@ unsafe extern "C" {
     safe fn hulemartob_i64_of(stored: u64) -> i64;
     safe fn hulemartob_bool_of(stored: u64) -> bool;
     safe fn hulemartob_f64_bits_of(stored: u64) -> u64;
+    fn hulemartob_values_as(kind: u32, list: *mut u64, list_len: usize);
     safe fn hulemartob_i64_range(low: i64, high: i64, range: &mut [u64; 2]);
     safe fn hulemartob_bool_range(low: bool, high: bool, range: &mut [u64; 2]);
     safe fn hulemartob_f64_range(low: u64, high: u64, range: &mut [u64; 2]);
@@ -222,6 +226,39 @@ impl View<'_> {
         }
         answer(refusal, rows[0] as u32..rows[1] as u32)
     }
+
+    /// The first row from `from` on whose answers differ between this column and another, with both, or none. Refused 13 if numbers are no column.
+    pub fn difference(self, other: View<'_>, from: u32) -> Result<Option<Difference>, Error> {
+        let View { numbers, table, bytes } = self;
+        let View { numbers: others, table: blocks, bytes: against } = other;
+        let (mut differing, mut refusal) = ([0; 7], [0; 2]);
+        // SAFETY: lent.
+        unsafe {
+            hulemartob_difference(
+                numbers,
+                table.as_ptr(),
+                table.len(),
+                bytes.as_ptr(),
+                bytes.len(),
+                others,
+                blocks.as_ptr(),
+                blocks.len(),
+                against.as_ptr(),
+                against.len(),
+                from,
+                &mut differing,
+                &mut refusal,
+            );
+        }
+        let [row, number, also, value, others_number, others_also, others_value] = differing;
+        let found = Difference { row: row as u32, left: told(number, also, value), right: told(others_number, others_also, others_value) };
+        answer(refusal, (row != u64::MAX).then_some(found))
+    }
+}
+
+/// What a row answered, by the refusal's two numbers and the value.
+fn told(number: u64, also: u64, value: u64) -> Result<u64, Error> {
+    answer([number, also], value)
 }
 
 /// What a stored number reads as: a signed number.
@@ -240,6 +277,12 @@ pub(crate) fn bool_of(stored: u64) -> bool {
 #[inline]
 pub(crate) fn f64_bits_of(stored: u64) -> u64 {
     hulemartob_f64_bits_of(stored)
+}
+
+/// Makes words of stored numbers, in their place: the words of the values that they read as.
+pub(crate) fn values_as(kind: Kind, list: &mut [u64]) {
+    // SAFETY: lent.
+    unsafe { hulemartob_values_as(kind as u32, list.as_mut_ptr(), list.len()) }
 }
 
 /// The first and the last stored number of the signed numbers from low to high.

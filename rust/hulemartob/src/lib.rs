@@ -25,6 +25,7 @@
 //!
 //! - Writing: [`encode`], [`encode_with`], [`encode_into`], [`encoded_len`].
 //! - Reading: [`Column`], whose bytes are borrowed or owned; its [windows](Column::window).
+//! - Where two columns differ: [`Column::differences`].
 //! - Columns from other writers: what is accepted ([`Sheet`]), and whether a column holds a list of values ([`check()`]).
 //! - What each byte of a column is, and whose: [`Column::parts`], [`Column::rows_of_byte`].
 //! - Lookups that are recorded and rerun: [`RecordingBuilder`], [`Column::replay`].
@@ -49,6 +50,7 @@ mod check;
 mod codec;
 mod column;
 pub mod compat;
+mod differences;
 mod error;
 mod ffi;
 mod iter;
@@ -61,6 +63,7 @@ mod write;
 pub use check::{Mismatch, check};
 pub use codec::{Codec, Sheet};
 pub use column::{Column, Line};
+pub use differences::{Difference, Differences};
 pub use error::{Error, Unknown};
 pub use iter::Iter;
 pub use parts::{Part, PartName, Parts};

@@ -277,19 +277,6 @@ impl Value for f64 {
     }
 }
 
-/// Makes words of stored numbers, in their place: the words of the values that they read as.
-pub(crate) fn words_of_stored(kind: Kind, numbers: &mut [u64]) {
-    fn each(numbers: &mut [u64], read: impl Fn(u64) -> u64) {
-        numbers.iter_mut().for_each(|number| *number = read(*number));
-    }
-    match kind {
-        Kind::U64 => {}
-        Kind::I64 | Kind::Date => each(numbers, |stored| ffi::i64_of(stored) as u64),
-        Kind::Bool => each(numbers, |stored| u64::from(ffi::bool_of(stored))),
-        Kind::F64 => each(numbers, ffi::f64_bits_of),
-    }
-}
-
 /// The first and the last stored number of a range of values. Where no value lies in the range, the first is above the last.
 pub(crate) fn stored_range<T: Value>(values: &impl RangeBounds<T>) -> [u64; 2] {
     const NONE: [u64; 2] = [1, 0];

@@ -31,8 +31,8 @@ reached c =
     let s = c .before .before .before .before .before .before .before .before in
     let left = c .before .reach .ensures in
     let right = c .reach2 .ensures in (
-      subst (λ (x : Own). Owned (now (s .args .lbytes)) (x .column) (x .pass)) (sym left) (owned-at (at .inv .0 .opens) _),
-      subst (λ (x : Own). Owned (now (s .args .rbytes)) (x .column) (x .pass)) (sym right) (owned-at (at .inv .1 .opens) _),
+      subst (λ (x : Own). Owned (now (s .args .lbytes)) (x .column) (x .pass)) (sym left) (owned-at (at .inv .0 .shows) _),
+      subst (λ (x : Own). Owned (now (s .args .rbytes)) (x .column) (x .pass)) (sym right) (owned-at (at .inv .1 .shows) _),
       at .inv .2
           ∙ ap (λ (x : Own). max (x .column .window .rows) (at .r .column .window .rows)) (sym left)
           ∙ ap (λ (x : Own). max (c .before .reach .result .column .window .rows) (x .column .window .rows)) (sym right),

@@ -30,22 +30,31 @@ slice-aggregate-write-all c = only-line (c .before .before) .1
 write-all-requires-2 : tie.Need-write-all-requires-2
 write-all-requires-2 c κs = search needs
 
-enum-known-a : tie.Need-enum-known-a
-enum-known-a c = search needs
+enum-known-own : tie.Need-enum-known-own
+enum-known-own c = search needs
 
--- both are columns of their bytes
-owned : (c : tie.After-a) →
-    let s = c .before .before .before .before .before .before .before .before in
-    let a = c .a .given .0 .0 in
-    let b = c .a .given .0 .1 .0 in
+narrowed-requires : tie.Need-narrowed-requires
+narrowed-requires c κs = search needs
+
+narrowed-requires-2 : tie.Need-narrowed-requires-2
+narrowed-requires-2 c κs = search needs
+
+-- both are columns of their bytes, narrowed or not
+owned : (c : tie.After-narrowed2) →
+    let s = c .before .before .before .before .before .before .before .before .before .before .before in
+    let a = c .before .narrowed .result in
+    let b = c .narrowed2 .result in
     Owned (now (s .args .left)) (a .column) (a .pass) × Owned (now (s .args .right)) (b .column) (b .pass)
-owned c = begun-owned (rw (c .a .given .1) at (c .before .before .begin .ensures))
+owned c =
+    let o = c .before .before .before in
+    let both = begun-owned (rw (o .own .given .1) at (o .before .before .begin .ensures)) in
+    (c .before .narrowed .ensures _ (both .0), c .narrowed2 .ensures _ (both .1))
 
 show-rows-requires : tie.Need-show-rows-requires
-show-rows-requires c κs = owned (c .before)
+show-rows-requires c κs = owned c
 
 show-rows-requires-2 : tie.Need-show-rows-requires-2
-show-rows-requires-2 c κs = owned (c .before .before)
+show-rows-requires-2 c κs = owned (c .before)
 
 wrapping-add-u32-requires : tie.Need-wrapping-add-u32-requires
 wrapping-add-u32-requires c κs = search needs
@@ -78,7 +87,9 @@ show-spec =
     array-share-prefix-line
     slice-aggregate-write-all
     write-all-requires-2
-    enum-known-a
+    enum-known-own
+    narrowed-requires
+    narrowed-requires-2
     show-rows-requires
     show-rows-requires-2
     wrapping-add-u32-requires

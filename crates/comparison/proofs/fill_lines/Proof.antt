@@ -1,7 +1,7 @@
 -- `fill_lines` meets its contract. The invariant is `Pairing`, with what the values at hand of both sides hold; the measure is the number of rows left.
 -- Assumes nothing.
-use Prim.Native.Nat.{_+_, _-_, _^_, _<_, max}
-use mathlib.Core.Path.{_≡_, refl, sym}
+use Prim.Native.Nat.{_+_, _-_, _^_, _≤_, _<_, max}
+use mathlib.Core.Path.{_≡_, refl}
 use mathlib.Core.Logic.{⊎-elim}
 use native.Mathlib.Omega.{arith}
 use lib.ListN.{length}
@@ -18,9 +18,11 @@ use Rattle.comparison.proofs.fill_lines.Tie as tie
 
 abbrev Inv-loop : tie.InvT-loop
 Inv-loop lbytes rbytes from out₀ column against rows lvalues₀ rvalues₀ lheld₀ rheld₀ r₀ done₀ out lvalues rvalues lheld rheld r done =
-    Pairing (ownRow column lbytes) (ownRow against rbytes) (max (column .window .rows) (against .window .rows)) from out₀ out r (done .lines) (done .bytes) × (rows ≡ max (column .window .rows) (against .window .rows))
+    Pairing (ownRow column lbytes) (ownRow against rbytes) (max (column .window .rows) (against .window .rows)) (from .0) out₀ out r (done .lines) (done .bytes) × (rows ≡ max (column .window .rows) (against .window .rows))
     × Holds lbytes column lheld lvalues
     × Holds rbytes against rheld rvalues
+    × (lheld .first .0 ≤ r)
+    × (rheld .first .0 ≤ r)
 
 abbrev μ-loop : tie.MeasureT-loop
 μ-loop lbytes rbytes from out₀ column against rows lvalues₀ rvalues₀ lheld₀ rheld₀ r₀ done₀ out lvalues rvalues lheld rheld r done = rows - r
@@ -39,13 +41,13 @@ loop-holds c =
     let left = c .before .nothing .ensures in
     let right = c .nothing2 .ensures in
     let s = c .before .before .before .before .before .before .before .before in
-    (pairing-starts _ _ _ _ _, c .before .before .row-count .ensures, holds-nothing _ (s .pre .0) (left .0) (left .1) (left .2) refl, holds-nothing _ (s .pre .1) (right .0) (right .1) (right .2) refl)
+    (pairing-starts _ _ _ _ _, c .before .before .row-count .ensures, holds-nothing _ (s .pre .0) (left .0) (left .2) (left .3) refl, holds-nothing _ (s .pre .1) (right .0) (right .2) (right .3) refl, omega (arith, left .1), omega (arith, right .1))
 
 sub-if1 : tie.Need-sub-if1 Inv-loop μ-loop
 sub-if1 c = omega arith
 
 hold-requires : tie.Need-hold-requires Inv-loop μ-loop
-hold-requires c κs = c .before .before .before .before .before .before .loop .inv .2
+hold-requires c κs = let f = c .before .before .before .before .before .before .loop .inv in (f .2, f .4)
 
 -- the left list holds what is said, of the row's block
 held-left : (c : tie.Joined2 Inv-loop μ-loop) →
@@ -55,11 +57,11 @@ held-left : (c : tie.Joined2 Inv-loop μ-loop) →
 held-left c =
     ⊎-elim
     (λ w. rw (w .4, w .3) (w .2 .ensures))
-    (λ w. rw (w .2, w .1) (record { holds = c .before .before .before .before .before .loop .inv .2; at = λ _. sym (w .0 .left) }))
+    (λ w. let f = c .before .before .before .before .before .loop .inv in rw (w .2, w .1) (record { holds = f .2; from = f .4; at = λ _. w .0 .left }))
     (c .if2 .came)
 
 hold-requires-2 : tie.Need-hold-requires-2 Inv-loop μ-loop
-hold-requires-2 c κs = c .before .before .before .before .before .before .before .before .loop .inv .3
+hold-requires-2 c κs = let f = c .before .before .before .before .before .before .before .before .loop .inv in (f .3, f .5)
 
 -- so does the right one
 held-right : (c : tie.Joined3 Inv-loop μ-loop) →
@@ -69,7 +71,7 @@ held-right : (c : tie.Joined3 Inv-loop μ-loop) →
 held-right c =
     ⊎-elim
     (λ w. rw (w .4, w .3) (w .2 .ensures))
-    (λ w. rw (w .2, w .1) (record { holds = c .before .before .before .before .before .before .before .loop .inv .3; at = λ _. sym (w .0 .left) }))
+    (λ w. let f = c .before .before .before .before .before .before .before .loop .inv in rw (w .2, w .1) (record { holds = f .3; from = f .5; at = λ _. w .0 .left }))
     (c .if3 .came)
 
 answer-requires : tie.Need-answer-requires Inv-loop μ-loop
@@ -107,13 +109,15 @@ loop-again c =
       at .1,
       held-left (kept .before .before) .holds,
       held-right kept .holds,
+      omega (arith, held-left (kept .before .before) .from),
+      omega (arith, held-right kept .from),
     )
 
 sub-t28 : tie.Need-sub-t28 Inv-loop μ-loop
-sub-t28 c = omega (arith, c .before .loop .inv .0 .text .start)
+sub-t28 c = omega (arith, c .before .before .loop .inv .0 .text .start)
 
 same-length : tie.Need-same-length Inv-loop μ-loop
-same-length c = c .before .loop .inv .0 .text .kept
+same-length c = c .before .before .loop .inv .0 .text .kept
 
 -- the loop is left where no row is left, or no room
 none-left : (c : tie.Left-loop Inv-loop μ-loop) →
@@ -124,8 +128,8 @@ none-left c = ⊎-elim (λ w. chunk-none _ _ _ _ _ (omega (arith, w .left))) (λ
 
 returns : tie.Need-returns Inv-loop μ-loop
 returns c =
-    let p = c .before .loop .inv .0 in
-    (pairing-answer p (none-left c), (pairing-list p (none-left c), counts _ _ (omega (arith, p .text .room, p .text .kept))))
+    let p = c .before .before .loop .inv .0 in
+    (pairing-answer p (none-left (c .before)), (pairing-list p (none-left (c .before)), counts _ _ (omega (arith, p .text .room, p .text .kept))))
 
 pub fill-lines-spec : {M : Type 1} → statement M
 fill-lines-spec =

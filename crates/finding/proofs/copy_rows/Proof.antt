@@ -23,6 +23,9 @@ mul-found c = search needs
 shared-slice-read-found : tie.Need-shared-slice-read-found Inv-loop μ-loop
 shared-slice-read-found c = search needs
 
+cast-found : tie.Need-cast-found Inv-loop μ-loop
+cast-found c = omega (arith, c .before .before .before .pre .1 (c .before .before .loop .i) (c .before .loop-test .taken))
+
 add-found : tie.Need-add-found Inv-loop μ-loop
 add-found c = search needs
 
@@ -30,7 +33,7 @@ mul-found-2 : tie.Need-mul-found-2 Inv-loop μ-loop
 mul-found-2 c = search needs
 
 slice-write-found : tie.Need-slice-write-found Inv-loop μ-loop
-slice-write-found c = omega (arith, c .before .before .loop .inv .long, c .before .before .before .pre, c .before .loop-test .taken)
+slice-write-found c = omega (arith, c .before .before .loop .inv .long, c .before .before .before .pre .0, c .before .loop-test .taken)
 
 add-i : tie.Need-add-i Inv-loop μ-loop
 add-i c = search needs
@@ -56,6 +59,7 @@ copy-rows-spec =
     loop-holds
     mul-found
     shared-slice-read-found
+    cast-found
     add-found
     mul-found-2
     slice-write-found

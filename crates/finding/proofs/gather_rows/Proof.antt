@@ -10,52 +10,56 @@ use Rattle.finding.proofs.gather_rows.Statement.{statement}
 use Rattle.finding.proofs.gather_rows.Tie as tie
 
 abbrev Inv-loop : tie.InvT-loop
-Inv-loop values low high row kept₀ n₀ i₀ kept n i = Gathering (within low high) values row kept n i
+Inv-loop values₀ low high row n₀ i₀ values n i = Gathering (within low high) values₀ row values n i
 
 abbrev μ-loop : tie.MeasureT-loop
-μ-loop values low high row kept₀ n₀ i₀ kept n i = length values - i
+μ-loop values₀ low high row n₀ i₀ values n i = length values₀ - i
 
 loop-holds : tie.Need-loop-holds Inv-loop μ-loop
-loop-holds c = gather-starts _ _ _ _ (c .before .pre .2)
+loop-holds c = gather-starts _ _ _
 
-cast-kept : tie.Need-cast-kept Inv-loop μ-loop
-cast-kept c = search needs
+mul-value : tie.Need-mul-value Inv-loop μ-loop
+mul-value c = search needs
 
-add-kept : tie.Need-add-kept Inv-loop μ-loop
-add-kept c = search needs
+slice-read-value : tie.Need-slice-read-value Inv-loop μ-loop
+slice-read-value c = search needs
 
-mul-kept : tie.Need-mul-kept Inv-loop μ-loop
-mul-kept c = search needs
+cast-values : tie.Need-cast-values Inv-loop μ-loop
+cast-values c = omega (arith, c .before .loop-test .taken, c .before .before .loop .inv .long, c .before .before .before .before .pre)
 
-element-write-kept : tie.Need-element-write-kept Inv-loop μ-loop
-element-write-kept c =
-    let g = c .before .loop .inv in
-    omega (arith, g .small, g .long, c .loop-test .taken, c .before .before .before .pre .1)
+add-values : tie.Need-add-values Inv-loop μ-loop
+add-values c = omega (arith, c .before .loop-test .taken, c .before .before .loop .inv .long, c .before .before .before .before .pre)
 
-mul-tallied : tie.Need-mul-tallied Inv-loop μ-loop
-mul-tallied c = search needs
+cast-values-2 : tie.Need-cast-values-2 Inv-loop μ-loop
+cast-values-2 c = search needs
 
-shared-slice-read-tallied : tie.Need-shared-slice-read-tallied Inv-loop μ-loop
-shared-slice-read-tallied c = search needs
+mul-values : tie.Need-mul-values Inv-loop μ-loop
+mul-values c = search needs
+
+slice-write-values : tie.Need-slice-write-values Inv-loop μ-loop
+slice-write-values c = omega (arith, c .before .loop-test .taken, c .before .before .loop .inv .small)
 
 tallied-requires : tie.Need-tallied-requires Inv-loop μ-loop
-tallied-requires c κs = omega (arith, c .before .before .loop .inv .small, c .before .loop-test .taken)
+tallied-requires c κs = omega (arith, c .before .loop-test .taken, c .before .before .loop .inv .small)
 
 add-i : tie.Need-add-i Inv-loop μ-loop
 add-i c = search needs
 
 loop-less : tie.Need-loop-less Inv-loop μ-loop
-loop-less c = search needs
+loop-less c = let k = c .before .before in omega (arith, k .loop-test .taken, k .before .loop .inv .long)
 
 loop-again : tie.Need-loop-again Inv-loop μ-loop
 loop-again c =
     let k = c .before .before in
-    gather-more _ (k .before .loop .inv) (k .loop-test .taken) (k .before .before .before .pre .1) (c .tallied .ensures)
+    gather-more _ (k .before .loop .inv) (k .loop-test .taken) (c .tallied .ensures)
+
+same-length : tie.Need-same-length Inv-loop μ-loop
+same-length c = c .before .loop .inv .long
 
 returns : tie.Need-returns Inv-loop μ-loop
 returns c =
     let g = c .before .loop .inv in
-    (g .most, g .long, gather-ends _ g (c .loop-test .left))
+    (omega (arith, g .small, g .most), gather-ends _ g (omega (arith, g .long, c .loop-test .left)))
 
 pub gather-rows-spec : {M : Type 1} → statement M
 gather-rows-spec =
@@ -64,14 +68,16 @@ gather-rows-spec =
     Inv-loop
     μ-loop
     loop-holds
-    cast-kept
-    add-kept
-    mul-kept
-    element-write-kept
-    mul-tallied
-    shared-slice-read-tallied
+    mul-value
+    slice-read-value
+    cast-values
+    add-values
+    cast-values-2
+    mul-values
+    slice-write-values
     tallied-requires
     add-i
     loop-less
     loop-again
+    same-length
     returns)

@@ -9,10 +9,14 @@ use Rattle.finding.proofs.keep.Tie as tie
 count-within-requires : tie.Need-count-within-requires
 count-within-requires c κs = search needs
 
+same-length : tie.Need-same-length
+same-length c = search needs
+
 returns : tie.Need-returns
 returns c =
-    let s = c .before .before .before .before in
-    (c .count-within .ensures .0 (s .args .row), rw (not-true (s .args .storing) (c .before .if1 .taken)))
+    let t = c .before .before in
+    let a = t .before .before .before .args in
+    (c .count-within .ensures .0 (a .row), (λ room. rw (not-true (a .storing) (t .if1 .taken))))
 
 store-within-requires : tie.Need-store-within-requires
 store-within-requires c κs = search needs
@@ -20,17 +24,28 @@ store-within-requires c κs = search needs
 sub-result : tie.Need-sub-result
 sub-result c = search needs
 
-same-length : tie.Need-same-length
-same-length c = search needs
+same-length-2 : tie.Need-same-length-2
+same-length-2 c = search needs
+
+same-length-3 : tie.Need-same-length-3
+same-length-3 c = search needs
 
 returns-2 : tie.Need-returns-2
 returns-2 c =
-    let k = c .before .before in
-    let e = k .before .before in
-    let s = e .before .before .before in
-    (omega (arith, k .store-within .ensures .0), rw (not-false (s .args .storing) (e .if1 .left)) (k .store-within .ensures .1 .0))
+    let k = c .before .before .before .before in
+    let e = k .before .before .before in
+    let storing = not-false (e .before .before .before .args .storing) (e .if1 .left) in
+    (omega (arith, k .store-within .ensures .0), (λ room. rw storing (k .store-within .ensures .1 (omega (arith, room storing, k .store-within .ensures .0)))))
 
 pub keep-spec : {M : Type 1} → statement M
 keep-spec =
     tie.close
-    (tie.spec count-within-requires returns store-within-requires sub-result same-length returns-2)
+    (tie.spec
+    count-within-requires
+    same-length
+    returns
+    store-within-requires
+    sub-result
+    same-length-2
+    same-length-3
+    returns-2)

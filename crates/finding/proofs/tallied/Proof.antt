@@ -1,8 +1,6 @@
 -- `finding::tallied` meets its contract: its comparison is the range's.
 -- Assumes nothing.
-use Prim.Native.Nat.{_-_, _≤_}
 use native.Mathlib.Omega.{arith}
-use Rattle.format.specs.Word.{modSub}
 use Rattle.finding.proofs.Ranges.{turned, near, far}
 use borrow.Author.Needs.{needs}
 use Rattle.finding.proofs.tallied.Statement.{statement}

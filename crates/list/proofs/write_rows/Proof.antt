@@ -28,7 +28,7 @@ reached : (c : tie.After-reach Inv-loop μ-loop) →
 reached c =
     let l = c .before .before .before .loop in
     let s = c .before .before .before .before .before .before .before in
-    (subst (λ (x : Own). Owned (now (s .args .bytes)) (x .column) (x .pass)) (sym (c .reach .ensures)) (owned-at (l .inv .0 .opens) _), ap (λ (x : Own). x .column) (c .reach .ensures) ∙ l .inv .1)
+    (subst (λ (x : Own). Owned (now (s .args .bytes)) (x .column) (x .pass)) (sym (c .reach .ensures)) (owned-at (l .inv .0 .shows) _), ap (λ (x : Own). x .column) (c .reach .ensures) ∙ l .inv .1)
 
 -- after the call: what its answer gives
 took-here : (c : tie.After-fill-lines Inv-loop μ-loop) →

@@ -1,7 +1,7 @@
 -- `fill_lines` meets its contract. The invariant is `Filling`, with what the values at hand hold; the measure is the number of rows left.
 -- Assumes nothing.
-use Prim.Native.Nat.{_+_, _-_, _^_, _<_}
-use mathlib.Core.Path.{_≡_, refl, sym}
+use Prim.Native.Nat.{_+_, _-_, _^_, _≤_, _<_}
+use mathlib.Core.Path.{_≡_, refl}
 use mathlib.Core.Logic.{⊎-elim}
 use native.Mathlib.Omega.{arith}
 use lib.ListN.{length}
@@ -21,7 +21,7 @@ use Rattle.listing.proofs.fill_lines.Tie as tie
 
 abbrev Inv-loop : tie.InvT-loop
 Inv-loop bytes from out₀ column values₀ held₀ r₀ at₀ out values held r at =
-    Filling (rowLine (ownRow column bytes)) lineMax (column .rows) from out₀ out r at × Holds bytes column held values
+    Filling (rowLine (ownRow column bytes)) lineMax (column .rows) (from .0) out₀ out r at × Holds bytes column held values × (held .first .0 ≤ r)
 
 abbrev μ-loop : tie.MeasureT-loop
 μ-loop bytes from out₀ column values₀ held₀ r₀ at₀ out values held r at = column .rows - r
@@ -32,13 +32,13 @@ nothing-requires c κs = tt
 loop-holds : tie.Need-loop-holds Inv-loop μ-loop
 loop-holds c =
     let none = c .nothing .ensures in
-    (filling-starts _ _ _ _ _, holds-nothing _ (c .before .before .before .before .pre) (none .0) (none .1) (none .2) refl)
+    (filling-starts _ _ _ _ _, holds-nothing _ (c .before .before .before .before .pre) (none .0) (none .2) (none .3) refl, omega (arith, none .1))
 
 sub-if2 : tie.Need-sub-if2 Inv-loop μ-loop
 sub-if2 c = omega arith
 
 hold-requires : tie.Need-hold-requires Inv-loop μ-loop
-hold-requires c κs = c .before .before .before .before .before .before .loop .inv .1
+hold-requires c κs = let f = c .before .before .before .before .before .before .loop .inv in (f .1, f .2)
 
 -- the list holds what is said, of the row's block
 held-here : (c : tie.Joined3 Inv-loop μ-loop) →
@@ -48,7 +48,7 @@ held-here : (c : tie.Joined3 Inv-loop μ-loop) →
 held-here c =
     ⊎-elim
     (λ w. rw (w .4, w .3) (w .2 .ensures))
-    (λ w. rw (w .2, w .1) (record { holds = c .before .before .before .before .before .loop .inv .1; at = λ _. sym (w .0 .left) }))
+    (λ w. let f = c .before .before .before .before .before .loop .inv in rw (w .2, w .1) (record { holds = f .1; from = f .2; at = λ _. w .0 .left }))
     (c .if3 .came)
 
 answer-requires : tie.Need-answer-requires Inv-loop μ-loop
@@ -73,13 +73,13 @@ loop-again c =
     let said = put .before .before in
     let kept = said .before .before in
     let wrote = put .put-row .ensures in
-    (filling-more (kept .before .before .before .before .before .loop .inv .0) (omega arith) (omega arith) (line-wrote _ _ (said .answer .ensures) (wrote .0)) (wrote .1), held-here kept .holds)
+    (filling-more (kept .before .before .before .before .before .loop .inv .0) (omega arith) (omega arith) (line-wrote _ _ (said .answer .ensures) (wrote .0)) (wrote .1), held-here kept .holds, omega (arith, held-here kept .from))
 
 sub-t19 : tie.Need-sub-t19 Inv-loop μ-loop
 sub-t19 c = omega arith
 
 same-length : tie.Need-same-length Inv-loop μ-loop
-same-length c = c .before .before .loop .inv .0 .kept
+same-length c = c .before .before .before .loop .inv .0 .kept
 
 -- the loop is left where no row is left, or no room
 none-left : (c : tie.Joined1 Inv-loop μ-loop) →
@@ -89,8 +89,8 @@ none-left c = ⊎-elim (λ w. chunk-none _ _ _ _ _ (w .left)) (λ w. chunk-full 
 
 returns : tie.Need-returns Inv-loop μ-loop
 returns c =
-    let f = c .before .before .loop .inv .0 in
-    (filling-answer f (none-left c), (filling-list f (none-left c), counts _ _ (omega arith)))
+    let f = c .before .before .before .loop .inv .0 in
+    (filling-answer f (none-left (c .before)), (filling-list f (none-left (c .before)), counts _ _ (omega arith)))
 
 pub fill-lines-spec : {M : Type 1} → statement M
 fill-lines-spec =

@@ -27,10 +27,10 @@ use Rattle.blockwise_linear.proofs.reader.first as fi
 use Rattle.blockwise_linear.proofs.reader.first.Symbol as fi-def
 use Rattle.blockwise_linear.proofs.reader.first.Symbol.{name as #blockwise-linear·reader·first}
 use Rattle.blockwise_linear.proofs.reader.first.Met as fi-thm
-use Rattle.blockwise_linear.proofs.reader.next_block as nx
-use Rattle.blockwise_linear.proofs.reader.next_block.Symbol as nx-def
-use Rattle.blockwise_linear.proofs.reader.next_block.Symbol.{name as #blockwise-linear·reader·next-block}
-use Rattle.blockwise_linear.proofs.reader.next_block.Met as nx-thm
+use Rattle.blockwise_linear.proofs.short.next_block as nx
+use Rattle.blockwise_linear.proofs.short.next_block.Symbol as nx-def
+use Rattle.blockwise_linear.proofs.short.next_block.Symbol.{name as #blockwise-linear·short·next-block}
+use Rattle.blockwise_linear.proofs.short.next_block.Met as nx-thm
 use Rattle.records.proofs.fill.Key.{name as #records·fill}
 use Rattle.records.proofs.fill as f
 use Rattle.records.proofs.fill.Statement as stated
@@ -49,7 +49,7 @@ module _ {M : Type 1} (𝓤 : URA M) (H : Heap 𝓤) (A : Atoms 𝓤) (mem : Mem
   abbrev Next : Contract 𝓤
   Next = tripleOf 𝓤 H A nx.signature (nx.spec 𝓤 H A mem run)
 
-  module _ (W : Given 𝓤 H A) (𝓣 : Tables 𝓤 H) (known-next : Triple 𝓤 (𝓣 .C #blockwise-linear·reader·next-block) Next) (κs : Lfts 2) (qs : Shares 2) (bytes : RefT (List ℕ)) (rows : ℕ) (table : RefT (List Block)) (room : Room (Ty.block .row) (length (table .now))) (ls : Spots locals) where
+  module _ (W : Given 𝓤 H A) (𝓣 : Tables 𝓤 H) (known-next : Triple 𝓤 (𝓣 .C #blockwise-linear·short·next-block) Next) (κs : Lfts 2) (qs : Shares 2) (bytes : RefT (List ℕ)) (rows : ℕ) (table : RefT (List Block)) (room : Room (Ty.block .row) (length (table .now))) (ls : Spots locals) where
     abbrev a : Args f.signature κs
     a = (bytes, (rows, (table, tt)))
 
@@ -122,7 +122,7 @@ module _ {M : Type 1} (𝓤 : URA M) (H : Heap 𝓤) (A : Atoms 𝓤) (mem : Mem
     looped t = first ! $ blocks ! $ loops ! 𝓣 (F._≺_ (table .now) (bytes .now) rows) (F.wf (table .now) (bytes .now) rows) I (λ u. tested (ltb 0 (u .c .left)) (more u) (over u)) t
 
   -- the MIR, up to the loop
-  walk : (W : Given 𝓤 H A) (𝓣 : Tables 𝓤 H) → Triple 𝓤 (𝓣 .C #blockwise-linear·reader·first) First → Triple 𝓤 (𝓣 .C #blockwise-linear·reader·next-block) Next → Triple 𝓤 (WpFn 𝓤 H (𝓣 .C) (𝓣 .Λ) code.function) (tripleOf 𝓤 H A f.signature (f.spec 𝓤 H A mem run))
+  walk : (W : Given 𝓤 H A) (𝓣 : Tables 𝓤 H) → Triple 𝓤 (𝓣 .C #blockwise-linear·reader·first) First → Triple 𝓤 (𝓣 .C #blockwise-linear·short·next-block) Next → Triple 𝓤 (WpFn 𝓤 H (𝓣 .C) (𝓣 .Λ) code.function) (tripleOf 𝓤 H A f.signature (f.spec 𝓤 H A mem run))
   walk W 𝓣 known-first known-next =
       meets-by 𝓤 H A W (𝓣 .C) (𝓣 .Λ) f.ended (f.clauses 𝓤 H A mem run) code.function locals (λ κs. (slice-vals, (uint-vals w32, (slice-vals, tt)))) refl
       (λ κs. (shr-slice-tells (named 0) (κs .0) u8, (uint-tells w32, (mut-slice-tells (named 1) (κs .1 .0) (Ty.block .row), tt))))
@@ -144,4 +144,4 @@ fill-spec 𝓤 H 𝓜 𝓖 𝓡 =
     (tables 𝓤 H 𝓜 𝓡 code.env .C) (tables 𝓤 H 𝓜 𝓡 code.env .Λ) #records·fill code.function (code.unfolded 𝓤 H 𝓜 𝓡)
     (walk 𝓤 H (𝓖 .A) (𝓜 .mem) (𝓡 .run) (givenOf 𝓤 H 𝓜 𝓖) (tablesOf 𝓤 H 𝓜 (tables 𝓤 H 𝓜 𝓡 code.env))
     (cited 𝓤 H (First 𝓤 H (𝓖 .A) (𝓜 .mem) (𝓡 .run)) 𝓜 𝓡 code.env #blockwise-linear·reader·first fi-def.routine code.calls-blockwise-linear·reader·first (fi-thm.met 𝓤 H 𝓜 𝓖 𝓡))
-    (cited 𝓤 H (Next 𝓤 H (𝓖 .A) (𝓜 .mem) (𝓡 .run)) 𝓜 𝓡 code.env #blockwise-linear·reader·next-block nx-def.routine code.calls-blockwise-linear·reader·next-block (nx-thm.met 𝓤 H 𝓜 𝓖 𝓡)))
+    (cited 𝓤 H (Next 𝓤 H (𝓖 .A) (𝓜 .mem) (𝓡 .run)) 𝓜 𝓡 code.env #blockwise-linear·short·next-block nx-def.routine code.calls-blockwise-linear·short·next-block (nx-thm.met 𝓤 H 𝓜 𝓖 𝓡)))

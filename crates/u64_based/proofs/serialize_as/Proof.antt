@@ -44,8 +44,8 @@ enum-told c = search needs
 collect-requires : tie.Need-collect-requires
 collect-requires c κs = search needs
 
-choose-requires : tie.Need-choose-requires
-choose-requires c κs = (describes c, told placeMeaning (c .before .before .before .unknown .ensures) (c .before .enum-told .given .1))
+codec-for-requires : tie.Need-codec-for-requires
+codec-for-requires c κs = (describes c, told placeMeaning (c .before .before .before .unknown .ensures) (c .before .enum-told .given .1))
 
 enum-told-2 : tie.Need-enum-told-2
 enum-told-2 c = search needs
@@ -55,14 +55,14 @@ enum-known-codec c = search needs
 
 put-requires : tie.Need-put-requires
 put-requires c κs = let chose = c .before .before .before .before in
-    (describes (chose .before), chosen-apt (chose .choose .ensures) (c .before .before .codec .given .1))
+    (describes (chose .before), chosen-apt (chose .codec-for .ensures) (c .before .before .codec .given .1))
 
 returns-3 : tie.Need-returns-3
 returns-3 c = let chose = c .before .before in
     let collected = chose .before in
     let sought = collected .before .before .before in
     let d = describes collected in
-    none-applies _ _ _ (d .few) (sought .unknown .ensures) (collected .before .enum-told .given .1) (d .stats) (chose .choose .ensures) (c .enum-told2 .given .1)
+    none-applies _ _ _ (d .few) (sought .unknown .ensures) (collected .before .enum-told .given .1) (d .stats) (chose .codec-for .ensures) (c .enum-told2 .given .1)
 
 same-length : tie.Need-same-length
 same-length c = search needs
@@ -74,7 +74,7 @@ returns-4 c = let done = c .before .before in
     let collected = chose .before in
     let sought = collected .before .before .before in
     let d = describes collected in
-    written-by _ _ _ (d .few) (sought .unknown .ensures) (collected .before .enum-told .given .1) (d .stats) (chose .choose .ensures) (known .codec .given .1) (done .put .ensures)
+    written-by _ _ _ (d .few) (sought .unknown .ensures) (collected .before .enum-told .given .1) (d .stats) (chose .codec-for .ensures) (known .codec .given .1) (done .put .ensures)
 
 pub serialize-as-spec : {M : Type 1} → statement M
 serialize-as-spec =
@@ -86,7 +86,7 @@ serialize-as-spec =
     returns-2
     enum-told
     collect-requires
-    choose-requires
+    codec-for-requires
     enum-told-2
     enum-known-codec
     put-requires

@@ -19,7 +19,7 @@ add-total c = search needs
 returns : tie.Need-returns
 returns c =
     let p = c .before .before .before .before .pre in (
-      (λ k read window o before list values f run n room. record { phase = goes-on k read f _ (p .1) values run n (c .if1 .taken) _ }),
+      (λ k read window o before list values f run n room. record { phase = goes-on k read f _ (p .1) values run n (c .if1 .taken) }),
       falls-on _ (p .0) _ (chunk-some _ _ _ _ (p .0 .to) (p .1)),
     )
 
@@ -60,7 +60,7 @@ returns-5 : tie.Need-returns-5
 returns-5 c =
     let e = c .before .before .before in
     let p = e .before .before .before .before .pre in (
-      (λ k read window o before list values f run n room. record { phase = turns-over k read f _ (p .1) values run n (e .if1 .left) (c .before .before .if2 .left) (rw room at (c .before .if3 .left)) _ }),
+      (λ k read window o before list values f run n room. record { phase = turns-over k read f _ (p .1) values run n (e .if1 .left) (c .before .before .if2 .left) (rw room at (c .before .if3 .left)) }),
       falls-looking _ (p .0) (c .before .before .if2 .left) _ (omega (arith, p .0 .to)),
     )
 

@@ -1,12 +1,11 @@
 -- `bitpacked::reader::get_range` meets its contract: the part from the area's start on holds each row's number, at the width of the count.
 -- Assumes nothing.
 use mathlib.Core.Path.{ap, _∙_}
-use native.Mathlib.Omega.{arith}
 use denote.Ref.{now}
 use Rattle.format.specs.Packing.{legal}
 use Rattle.format.proofs.Runs.{run-agree}
 use Rattle.format.proofs.Widths.{width-legal}
-use Rattle.bitpacked.proofs.Rows.{row-is, narrow-count}
+use Rattle.bitpacked.proofs.Rows.{row-is}
 use borrow.Author.Needs.{needs}
 use Rattle.bitpacked.proofs.reader.get_range.Statement.{statement}
 use Rattle.bitpacked.proofs.reader.get_range.Tie as tie
@@ -27,7 +26,7 @@ scale-run-requires : tie.Need-scale-run-requires
 scale-run-requires c κs =
     let k = c .before .before in
     let s = k .before .before .before in
-    (ap legal (k .compute-num-bits .ensures) ∙ width-legal _, ((s .pre .0 .bounds, narrow-count _ _ (omega arith) (k .compute-num-bits .ensures)), s .pre .1))
+    (ap legal (k .compute-num-bits .ensures) ∙ width-legal _, (s .pre .0 .bounds, s .pre .1))
 
 same-length : tie.Need-same-length
 same-length c = search needs

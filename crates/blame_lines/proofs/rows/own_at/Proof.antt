@@ -3,8 +3,9 @@
 use mathlib.Core.Path.{sym, ap, _∙_, subst}
 use denote.Ref.{now}
 use Rattle.tableless.specs.declared.own.Own.{Own}
-use Rattle.tableless.specs.Own.{ownAt, Owned}
+use Rattle.tableless.specs.Own.{blockOf, ownAt, Owned}
 use Rattle.tableless.proofs.Owns.{owned-first}
+use Rattle.tableless.proofs.Rows.{opens-shows}
 use borrow.Author.Needs.{needs}
 use Rattle.blame_lines.proofs.rows.own_at.Statement.{statement}
 use Rattle.blame_lines.proofs.rows.own_at.Tie as tie
@@ -15,12 +16,12 @@ begin-requires c κs = search needs
 reach-requires : tie.Need-reach-requires
 reach-requires c κs =
     let s = c .before .before in
-    subst (λ (x : Own). Owned (now (s .args .bytes)) (x .column) (x .pass)) (sym (c .begin .ensures)) (owned-first (s .pre))
+    subst (λ (x : Own). Owned (now (s .args .bytes)) (x .column) (x .pass)) (sym (c .begin .ensures)) (owned-first (opens-shows (s .pre)))
 
 returns : tie.Need-returns
 returns c =
     let s = c .before .before .before in
-    c .reach .ensures ∙ ap (λ (x : Own). ownAt (now (s .args .bytes)) (x .column) (s .args .row)) (c .before .begin .ensures)
+    c .reach .ensures ∙ ap (λ (x : Own). ownAt (now (s .args .bytes)) (x .column) (blockOf (x .column) (s .args .row .0))) (c .before .begin .ensures)
 
 pub own-at-spec : {M : Type 1} → statement M
 own-at-spec = tie.close (tie.spec begin-requires reach-requires returns)

@@ -7,6 +7,7 @@ use denote.Ref.{now}
 use Rattle.tableless.specs.declared.own.Own.{Own}
 use Rattle.tableless.specs.Own.{Owned}
 use Rattle.tableless.proofs.Owns.{owned-at}
+use Rattle.tableless.proofs.Rows.{opens-shows}
 use borrow.Author.Needs.{needs}
 use Rattle.blame_lines.proofs.rows.put_owners.Statement.{statement}
 use Rattle.blame_lines.proofs.rows.put_owners.Tie as tie
@@ -24,8 +25,8 @@ put-rows-requires : tie.Need-put-rows-requires
 put-rows-requires c κs = let known = c .before .before .before .before in
     let s = known .before .before .before .before .before in (
       (
-        subst (λ (x : Own). Owned (now (s .args .lbytes)) (x .column) (x .pass)) (sym (c .before .before .own-at .ensures)) (owned-at (s .pre .0 .0) _),
-        subst (λ (x : Own). Owned (now (s .args .rbytes)) (x .column) (x .pass)) (sym (c .before .own-at2 .ensures)) (owned-at (s .pre .0 .1) _),
+        subst (λ (x : Own). Owned (now (s .args .lbytes)) (x .column) (x .pass)) (sym (c .before .before .own-at .ensures)) (owned-at (opens-shows (s .pre .0 .0)) _),
+        subst (λ (x : Own). Owned (now (s .args .rbytes)) (x .column) (x .pass)) (sym (c .before .own-at2 .ensures)) (owned-at (opens-shows (s .pre .0 .1)) _),
       ),
       (rw (known .owners .given .1) at (s .pre .1 .0), omega (arith, s .pre .1 .1)),
     )

@@ -1,25 +1,12 @@
--- `blockwise_rows::reader::line_run` meets its contract: numbers that were raised by the line with none above the count are the rows' values, and the other ways are `line_rows`.
+-- `blockwise_rows::reader::line_run` meets its contract: the line and the numbers that were unpacked are the rows' multiples, and their heights above the minimum where the gcd is 1.
 -- Assumes nothing.
 use mathlib.Core.Path.{ap, _∙_}
 use native.Mathlib.Omega.{arith}
-use borrow.Author.Tests.{not-false}
 use Rattle.format.specs.Runs.{readRun}
-use Rattle.blockwise_rows.proofs.Rows.{raised-run}
+use Rattle.blockwise_rows.proofs.Rows.{multiples-read, heights-read}
 use borrow.Author.Needs.{needs}
 use Rattle.blockwise_rows.proofs.reader.line_run.Statement.{statement}
 use Rattle.blockwise_rows.proofs.reader.line_run.Tie as tie
-
-is-plain-requires : tie.Need-is-plain-requires
-is-plain-requires c κs = search needs
-
-line-rows-requires : tie.Need-line-rows-requires
-line-rows-requires c κs = search needs
-
-same-length : tie.Need-same-length
-same-length c = search needs
-
-returns : tie.Need-returns
-returns c = search needs
 
 split-requires : tie.Need-split-requires
 split-requires c κs = search needs
@@ -31,53 +18,51 @@ cast-raise-by-line : tie.Need-cast-raise-by-line
 cast-raise-by-line c = search needs
 
 raise-by-line-requires : tie.Need-raise-by-line-requires
-raise-by-line-requires c κs =
-    let g = c .before .before .before in
-    let e = g .before .before .before in
-    let s = e .before .before .before .before in
-    (e .before .is-plain .ensures (not-false _ (e .if1 .left)) .1, omega (arith, s .pre .1 .1, g .get-run .kept))
+raise-by-line-requires c κs = search needs
+
+same-length : tie.Need-same-length
+same-length c = search needs
+
+returns : tie.Need-returns
+returns c =
+    let r = c .before .before in
+    let p = r .before .before in
+    let g = p .before .before .before .before in
+    let f = g .before .before in
+    let s = f .before .before .before in
+    r .raise-by-line .ensures _ _ (heights-read (s .args .column) (s .args .line) _ _ _ _ _ _ (f .split .ensures .1) (s .pre .1 .1) (omega (arith, g .get-run .kept)) (g .get-run .ensures) (p .if1 .taken) (s .pre .1 .0))
+    ∙ ap (readRun _ _) (omega (arith, g .get-run .kept))
+
+cast-scale-by-line : tie.Need-cast-scale-by-line
+cast-scale-by-line c = search needs
+
+scale-by-line-requires : tie.Need-scale-by-line-requires
+scale-by-line-requires c κs = search needs
 
 same-length-2 : tie.Need-same-length-2
 same-length-2 c = search needs
 
 returns-2 : tie.Need-returns-2
 returns-2 c =
-    let r = c .before .before .before in
-    let g = r .before .before .before .before in
-    let p = g .before .before in
-    let e = p .before in
-    let s = e .before .before .before .before in
-    let one = e .before .is-plain .ensures (not-false _ (e .if1 .left)) .0 in
-    raised-run (s .args .column) (s .args .line) _ _ _ _ _ _ _ one (s .pre .1 .0) (p .split .ensures .1) (s .pre .1 .1) (omega (arith, g .get-run .kept)) (omega (arith, r .raise-by-line .kept, g .get-run .kept)) (g .get-run .ensures)
-    (r .raise-by-line .ensures (c .if2 .taken))
-
-line-rows-requires-2 : tie.Need-line-rows-requires-2
-line-rows-requires-2 c κs = search needs
-
-same-length-3 : tie.Need-same-length-3
-same-length-3 c = search needs
-
-returns-3 : tie.Need-returns-3
-returns-3 c =
-    let w = c .before .before in
-    let r = w .before .before .before .before .before in
-    let g = r .before .before .before .before in
-    w .line-rows2 .ensures ∙ ap (readRun _ _) (omega (arith, r .raise-by-line .kept, g .get-run .kept))
+    let r = c .before .before in
+    let p = r .before .before in
+    let g = p .before .before .before .before in
+    let f = g .before .before in
+    let s = f .before .before .before in
+    r .scale-by-line .ensures _ _ (multiples-read (s .args .column) (s .args .line) _ _ _ _ _ _ (f .split .ensures .1) (s .pre .1 .1) (omega (arith, g .get-run .kept)) (g .get-run .ensures))
+    ∙ ap (readRun _ _) (omega (arith, g .get-run .kept))
 
 pub line-run-spec : {M : Type 1} → statement M
 line-run-spec =
     tie.close
     (tie.spec
-    is-plain-requires
-    line-rows-requires
-    same-length
-    returns
     split-requires
     get-run-requires
     cast-raise-by-line
     raise-by-line-requires
+    same-length
+    returns
+    cast-scale-by-line
+    scale-by-line-requires
     same-length-2
-    returns-2
-    line-rows-requires-2
-    same-length-3
-    returns-3)
+    returns-2)

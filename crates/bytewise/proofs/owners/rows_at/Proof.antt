@@ -1,19 +1,19 @@
 -- `rows_at` meets its contract. Before each turn the search comes to what it shall, with the table that opening finds; the pass is over the column's blocks, so a turn has the table's block
 -- at hand. The measure is the number of blocks left.
 -- Assumes nothing.
-use Prim.Native.Nat.{_*_, _/_, _<_}
+use Prim.Native.Nat.{_*_, _<_}
 use mathlib.Core.Path.{_≡_, sym, ap, _∙_, subst}
 use native.Mathlib.Omega.{arith}
 use denote.Ref.{now}
 use Rattle.format.specs.declared.Column.{Column}
 use Rattle.format.specs.Listing.{openedHere}
-use Rattle.format.specs.Reading.{blockAt}
 use Rattle.owning.specs.Bytes.{rowsOf}
 use Rattle.owning.specs.Search.{searched, Searching}
 use Rattle.owning.proofs.Searches.{search-ends}
 use Rattle.tableless.specs.declared.own.Own.{Own}
 use Rattle.tableless.specs.Own.{tableOf, ownAt, Owned}
-use Rattle.tableless.proofs.Owns.{own-few, own-block, owned-first, owned-at}
+use Rattle.tableless.proofs.Owns.{own-block, owned-first, owned-at}
+use Rattle.tableless.proofs.Rows.{opens-shows}
 use borrow.Author.Needs.{needs}
 use Rattle.bytewise.proofs.owners.rows_at.Statement.{statement}
 use Rattle.bytewise.proofs.owners.rows_at.Tie as tie
@@ -36,34 +36,28 @@ loop-holds : tie.Need-loop-holds Inv-loop μ-loop
 loop-holds c =
     let first = c .before .begin .ensures in
     let s = c .before .before .before in (
-      subst (λ (x : Own). Owned (now (s .args .bytes)) (s .args .column) (x .pass)) (sym first) (owned-first (s .pre)),
+      subst (λ (x : Own). Owned (now (s .args .bytes)) (s .args .column) (x .pass)) (sym first) (owned-first (opens-shows (s .pre))),
       ap (λ (x : Own). x .column) first,
       c .begin2 .ensures .0,
       c .begin2 .ensures .1 (tableOf (openedHere (now (s .args .bytes)))),
     )
 
 -- the next block has rows, so it is the block of a row
-inside : (c : tie.After-struct-known2 Inv-loop μ-loop) →
-    let l = c .before .before .before in
+inside : (c : tie.Then1 Inv-loop μ-loop) →
+    let l = c .before .before in
     512 * l .loop .search .next < l .before .before .before .before .args .column .rows
 inside c =
-    let l = c .before .before .before in
-    omega (arith, l .loop .inv .2 .inside, c .before .if1 .taken)
+    let l = c .before .before in
+    omega (arith, l .loop .inv .2 .inside, c .if1 .taken)
 
-cast-reach : tie.Need-cast-reach Inv-loop μ-loop
-cast-reach c = omega (arith, inside c, own-few (c .before .before .before .loop .inv .0 .opens))
-
-mul-reach : tie.Need-mul-reach Inv-loop μ-loop
-mul-reach c = omega (arith, inside c, own-few (c .before .before .before .loop .inv .0 .opens))
-
-reach-requires : tie.Need-reach-requires Inv-loop μ-loop
-reach-requires c κs =
-    let l = c .before .before .before in
+reach-block-requires : tie.Need-reach-block-requires Inv-loop μ-loop
+reach-block-requires c κs =
+    let l = c .before .before in
     subst (λ (k : Column). Owned (now (l .before .before .before .before .args .bytes)) k (l .loop .own .pass)) (sym (l .loop .inv .1)) (l .loop .inv .0)
 
 step-requires : tie.Need-step-requires Inv-loop μ-loop
 step-requires c κs =
-    let turn = c .before .before .before in
+    let turn = c .before .before in
     (turn .before .before .loop .inv .2, turn .if1 .taken)
 
 loop-less : tie.Need-loop-less Inv-loop μ-loop
@@ -72,15 +66,14 @@ loop-less c = c .step .ensures .1
 loop-again : tie.Need-loop-again Inv-loop μ-loop
 loop-again c =
     let reached = c .before .before in
-    let l = reached .before .before .before .before in
+    let l = reached .before .before .before in
     let s = l .before .before .before .before in
-    let r = 512 * l .loop .search .next in
-    let opens = l .loop .inv .0 .opens in
+    let k = l .loop .search .next in
+    let shows = l .loop .inv .0 .shows in
     let table = tableOf (openedHere (now (s .args .bytes))) in
-    let here : reached .reach .result ≡ ownAt (now (s .args .bytes)) (s .args .column) r = reached .reach .ensures ∙ ap (λ (k : Column). ownAt (now (s .args .bytes)) k r) (l .loop .inv .1) in
-    let number : r / 512 ≡ l .loop .search .next = omega arith in
-    let block = ap (λ (x : Own). x .pass .block) here ∙ own-block opens r (inside (reached .before)) ∙ ap (blockAt table) number in (
-      subst (λ (x : Own). Owned (now (s .args .bytes)) (s .args .column) (x .pass)) (sym here) (owned-at opens r),
+    let here : reached .reach-block .result ≡ ownAt (now (s .args .bytes)) (s .args .column) k = reached .reach-block .ensures ∙ ap (λ (c : Column). ownAt (now (s .args .bytes)) c k) (l .loop .inv .1) in
+    let block = ap (λ (x : Own). x .pass .block) here ∙ own-block shows k (inside (reached .before)) in (
+      subst (λ (x : Own). Owned (now (s .args .bytes)) (s .args .column) (x .pass)) (sym here) (owned-at shows k),
       ap (λ (x : Own). x .column) here,
       c .step .ensures .0 .0,
       c .step .ensures .0 .1 table block ∙ l .loop .inv .3,
@@ -102,9 +95,7 @@ rows-at-spec =
     begin-requires
     begin-requires-2
     loop-holds
-    cast-reach
-    mul-reach
-    reach-requires
+    reach-block-requires
     step-requires
     loop-less
     loop-again

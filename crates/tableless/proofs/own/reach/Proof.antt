@@ -1,19 +1,24 @@
--- `reach` meets its contract: the same column, with the pass at the row's block.
+-- `reach` meets its contract: the column at the block of the row.
 -- Assumes nothing.
-use mathlib.Core.Path.{ap}
+use mathlib.Core.Path.{ap, _∙_}
+use Prim.Native.Nat.{ℕ}
 use borrow.Author.Needs.{needs}
-use Rattle.blockwise_linear.specs.declared.passing.Pass.{Pass}
+use denote.Ref.{now}
 use Rattle.tableless.specs.declared.own.Own.{Own}
+use Rattle.tableless.specs.Own.{ownAt}
 use Rattle.tableless.proofs.own.reach.Statement.{statement}
 use Rattle.tableless.proofs.own.reach.Tie as tie
 
-pass-at-requires : tie.Need-pass-at-requires
-pass-at-requires c κs = search needs
+block-of-requires : tie.Need-block-of-requires
+block-of-requires c κs = search needs
+
+reach-block-requires : tie.Need-reach-block-requires
+reach-block-requires c κs = search needs
 
 returns : tie.Need-returns
 returns c =
-    let own = c .before .before .before .args .own in
-    ap {B = Own} (λ (p : Pass). record { column = own .column; pass = p }) (c .pass-at .ensures)
+    let a = c .before .before .before .args in
+    c .reach-block .ensures ∙ ap {B = Own} (λ (k : ℕ). ownAt (now (a .bytes)) (a .own .column) k) (c .before .block-of .ensures)
 
 pub reach-spec : {M : Type 1} → statement M
-reach-spec = tie.close (tie.spec pass-at-requires returns)
+reach-spec = tie.close (tie.spec block-of-requires reach-block-requires returns)

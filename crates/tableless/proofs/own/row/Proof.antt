@@ -1,12 +1,13 @@
--- `own::row` meets its contract: all fits together at each row of an opened column.
+-- `own::row` meets its contract: all fits together at each row of an opened column's window.
 -- Assumes nothing.
 use mathlib.Core.Path.{_∙_}
-use Rattle.tableless.proofs.Owns.{own-row-small, own-fits, own-answers}
+use native.Mathlib.Omega.{arith}
+use Rattle.tableless.proofs.Owns.{own-few, own-there, own-fits, own-answers}
 use Rattle.tableless.proofs.own.row.Statement.{statement}
 use Rattle.tableless.proofs.own.row.Tie as tie
 
 row-fitting-requires : tie.Need-row-fitting-requires
-row-fitting-requires c κs = (own-row-small (c .before .pre), own-fits (c .before .pre))
+row-fitting-requires c κs = let a = c .before .pre in (omega (arith, own-there (a .shows) (a .inside), own-few (a .shows)), own-fits a)
 
 returns : tie.Need-returns
 returns c = c .row-fitting .ensures ∙ own-answers (c .before .before .pre)

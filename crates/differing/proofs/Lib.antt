@@ -1,0 +1,9 @@
+-- Laws of the search for the first difference; the head of each file lists what it offers.
+
+-- rows with equal answers
+pub mod Equals
+-- a search under way
+pub mod Seeks
+-- what the first difference says, and cases
+pub mod Firsts
+pub mod Cases
