@@ -361,7 +361,11 @@ impl<T: MonotonicallyMappableToU64, B: AsRef<[u8]> + Send + Sync> ColumnValues<T
     }
 }
 
-/// Writes values as a column, by that of the listed codecs whose size is least. Refusals 1 and 3 are errors, and so is what writing to `wrt` fails by.
+/// Writes values as a column, by that of the listed codecs whose size is least.
+///
+/// # Errors
+///
+/// The refusals of [`encode_with`](crate::encode_with), and what writing to `wrt` fails by.
 pub fn serialize_u64_based_column_values<T: MonotonicallyMappableToU64>(
     vals: &dyn Iterable<T>,
     codec_types: &[CodecType],
@@ -372,7 +376,11 @@ pub fn serialize_u64_based_column_values<T: MonotonicallyMappableToU64>(
     wrt.write_all(&crate::encode_with(&stored, &codecs)?)
 }
 
-/// Opens a column: [`Column::open`]. Refusals 5 to 10 are errors.
+/// Opens a column.
+///
+/// # Errors
+///
+/// The refusals of [`Column::open`].
 pub fn load_u64_based_column_values<T: MonotonicallyMappableToU64>(
     bytes: impl AsRef<[u8]> + Send + Sync + 'static,
 ) -> io::Result<Arc<dyn ColumnValues<T>>> {
