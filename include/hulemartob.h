@@ -64,9 +64,9 @@
 #include <stddef.h>
 #include <stdint.h>
 
-#define HULEMARTOB_VERSION "0.2.0"
+#define HULEMARTOB_VERSION "0.1.0"
 #define HULEMARTOB_VERSION_MAJOR 0
-#define HULEMARTOB_VERSION_MINOR 2
+#define HULEMARTOB_VERSION_MINOR 1
 #define HULEMARTOB_VERSION_PATCH 0
 
 #ifdef __cplusplus
