@@ -227,7 +227,11 @@ impl View<'_> {
         answer(refusal, rows[0] as u32..rows[1] as u32)
     }
 
-    /// The first row from `from` on whose answers differ between this column and another, with both, or none. Refused 13 if numbers are no column.
+    /// The first row from `from` on whose answers differ between this column and another, with both, or none.
+    ///
+    /// # Errors
+    ///
+    /// 13 if numbers are no column.
     pub fn difference(self, other: View<'_>, from: u32) -> Result<Option<Difference>, Error> {
         let View { numbers, table, bytes } = self;
         let View { numbers: others, table: blocks, bytes: against } = other;
@@ -279,10 +283,13 @@ pub(crate) fn f64_bits_of(stored: u64) -> u64 {
     hulemartob_f64_bits_of(stored)
 }
 
-/// Makes words of stored numbers, in their place: the words of the values that they read as.
+/// Makes words of stored numbers, in their place: the words of the values that they read as. Plain numbers are that already.
+#[inline]
 pub(crate) fn values_as(kind: Kind, list: &mut [u64]) {
-    // SAFETY: lent.
-    unsafe { hulemartob_values_as(kind as u32, list.as_mut_ptr(), list.len()) }
+    if kind != Kind::U64 {
+        // SAFETY: lent.
+        unsafe { hulemartob_values_as(kind as u32, list.as_mut_ptr(), list.len()) }
+    }
 }
 
 /// The first and the last stored number of the signed numbers from low to high.

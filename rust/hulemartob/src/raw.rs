@@ -20,6 +20,8 @@
 //! # Ok::<(), Error>(())
 //! ```
 
+use std::fmt;
+
 use crate::{Codec, Column, Error, Kind, Mismatch, ffi, max_encoded_len};
 
 pub use crate::ffi::{open, serialize, stats};
@@ -84,7 +86,7 @@ impl From<Numbers> for [u64; 12] {
 }
 
 /// A column in its three parts. [`Column::raw`] gives those of an opened one. Rows count from the window's start.
-#[derive(Clone, Copy, Debug)]
+#[derive(Clone, Copy)]
 pub struct View<'a> {
     /// The twelve numbers.
     pub numbers: &'a Numbers,
@@ -92,6 +94,12 @@ pub struct View<'a> {
     pub table: &'a [Block],
     /// The bytes.
     pub bytes: &'a [u8],
+}
+
+impl fmt::Debug for View<'_> {
+    fn fmt(&self, f: &mut fmt::Formatter<'_>) -> fmt::Result {
+        write!(f, "View {{ {:?}, {} blocks, {} bytes }}", self.numbers, self.table.len(), self.bytes.len())
+    }
 }
 
 impl<B: AsRef<[u8]>> Column<u64, B> {
