@@ -26,11 +26,9 @@
  *             blocks = error.value;
  *             hulemartob_open(bytes, length, table, blocks, &column, &error);
  *         }
- *         if (error.number) {
- *             fprintf(stderr, "refused %" PRIu64 ": %s\n", error.number, hulemartob_error_text(error.number));
- *             return 1;
- *         }
- *         for (uint32_t row = 0; row < column.window_rows; row++) {
+ *         bool opened = error.number == 0;
+ *         if (!opened) fprintf(stderr, "refused %" PRIu64 ": %s\n", error.number, hulemartob_error_text(error.number));
+ *         for (uint32_t row = 0; opened && row < column.window_rows; row++) {
  *             uint64_t value = hulemartob_row(&column, table, blocks, bytes, length, row, &error);
  *             if (error.number)
  *                 printf("%" PRIu32 " refused %" PRIu64 "\n", row, error.number);
@@ -40,7 +38,7 @@
  *         free(table);
  *         free(bytes);
  *         fclose(file);
- *         return 0;
+ *         return opened ? 0 : 1;
  *     }
  *
  * It is built by `cc rows.c $(pkg-config --cflags --libs hulemartob)` once `tools/install PREFIX` has put header and archive in place. hulemartob_typed.h
@@ -66,9 +64,9 @@
 #include <stddef.h>
 #include <stdint.h>
 
-#define HULEMARTOB_VERSION "0.2.0"
+#define HULEMARTOB_VERSION "0.1.0"
 #define HULEMARTOB_VERSION_MAJOR 0
-#define HULEMARTOB_VERSION_MINOR 2
+#define HULEMARTOB_VERSION_MINOR 1
 #define HULEMARTOB_VERSION_PATCH 0
 
 #ifdef __cplusplus

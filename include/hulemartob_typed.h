@@ -84,6 +84,14 @@ static inline void hulemartob_reader_close(hulemartob_reader *reader) {
     memset(reader, 0, sizeof *reader);
 }
 
+/* hulemartob_difference of two readers. Returns whether there is a row that differs. */
+static inline bool hulemartob_reader_difference(const hulemartob_reader *left, const hulemartob_reader *right, uint32_t from, hulemartob_differing *differing,
+                                                hulemartob_error *error) {
+    hulemartob_difference(&left->column, left->table, left->table_len, left->bytes, left->bytes_len, &right->column, right->table, right->table_len,
+                          right->bytes, right->bytes_len, from, differing, error);
+    return error->number == 0 && differing->row != UINT64_MAX;
+}
+
 /* ---- plain numbers */
 
 static inline uint64_t hulemartob_row_u64(const hulemartob_reader *reader, uint32_t row, hulemartob_error *error) {

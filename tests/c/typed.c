@@ -32,6 +32,10 @@ static void readers(void) {
         hulemartob_narrow(&window.column, 510, 5, &error);
         EXPECT(hulemartob_row_u64(&window, 4, &error) == values[514] && refused(0, 0));
         EXPECT(hulemartob_row_u64(&window, 5, &error) == 0 && refused(12, 0));
+        hulemartob_differing two;
+        EXPECT(!hulemartob_reader_difference(&reader, &reader, 0, &two, &error) && refused(0, 0) && two.row == UINT64_MAX);
+        EXPECT(hulemartob_reader_difference(&reader, &window, 7, &two, &error) && two.row == 7 && two.left.value == values[7]);
+        EXPECT(two.right.error.number == 12 && two.right.value == 0);
         hulemartob_reader_close(&reader);
         EXPECT(reader.table == NULL && reader.column.rows == 0);
         EXPECT(hulemartob_row_u64(&reader, 0, &error) == 0 && refused(12, 0));

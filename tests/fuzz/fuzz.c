@@ -7,7 +7,8 @@
  *   - a refused call changes nothing that it was lent, and a call that is not refused nothing behind its answer;
  *   - opening says the same with just enough table and with more, and asks for the same with less; sheet 2 accepts only what sheet 1 does, as the same column;
  *   - a run is its rows, a lookup its rows filtered, a window's row the column's, and the first refused row decides;
- *   - the parts of a column are its bytes from the first to the last, and a changed byte of the area changes no row but those that it names;
+ *   - the parts of a column are its bytes from the first to the last, and a changed byte of the area changes no row but those that it names; the first that it changes
+ *     is where the two columns differ;
  *   - a recording of what lookups find agrees, and a replay of any other bytes says what its lookups do;
  *   - the verdict on a column is the one that rows and statistics give;
  *   - what a column reads as, written again, opens under both sheets and reads as the same, as values of any kind too, by which a lookup finds what lies between.
@@ -388,6 +389,11 @@ static void typed_back(const uint64_t *values, size_t length, uint32_t kind, uin
         default: MUST((uint64_t)hulemartob_i64_of(stored) == values[i]);
         }
     }
+    uint64_t *words = lend(OUT, 8 * length);
+    MUST(hulemartob_run(OF(&s), 0, words, length, &error) == length && is(error, 0, 0));
+    hulemartob_values_as(kind, words, length);
+    for (size_t i = 0; i < length; i++)
+        MUST(words[i] == (kind == HULEMARTOB_KIND_BOOL ? values[i] != 0 : values[i]));
     if (!length || kind == HULEMARTOB_KIND_U64) return;
     uint64_t low = values[choice % length], high = values[choice * 7 % length];
     hulemartob_range range;
@@ -493,11 +499,24 @@ static void changes_are_local(const subject *s, uint64_t choice, uint8_t change)
     uint8_t *copy = lend_copy(CHANGED, s->bytes, s->length);
     copy[offset] ^= change;
     changed.bytes = copy;
+    size_t differs = count;
     for (uint32_t i = 0; i < count; i++) {
         uint64_t row = c->window_first + first + i, value = hulemartob_row(OF(&changed), first + i, &error);
         if (row < rows.first || rows.end <= row) MUST(value == answers[i] && equal(error, errors[i]));
+        if (differs == count && (value != answers[i] || error.number != errors[i].number)) differs = i;
     }
+    /* The first that differs, in the window of the sampled rows. */
+    subject window = *s;
+    size_t many = inside(s);
+    hulemartob_narrow(&window.column, many ? first : 0, (uint32_t)many, &error);
+    MUST(is(error, 0, 0));
+    changed.column = window.column;
+    hulemartob_differing two;
+    hulemartob_difference(OF(&window), OF(&changed), 0, &two, &error);
+    MUST(is(error, 0, 0) && two.row == (differs < count ? differs : UINT64_MAX));
+    if (differs < count) MUST(two.left.value == answers[differs] && two.left.error.number == errors[differs].number);
     seen(10, rows.end - rows.first, c->codec);
+    seen(18, size_of(differs), two.right.error.number);
 }
 
 static bool said(hulemartob_verdict verdict, uint64_t reason, uint64_t one, uint64_t two) {

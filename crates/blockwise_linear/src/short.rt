@@ -7,6 +7,7 @@ ghost use Prim.Native.Nat.{ℕ};
 ghost use Rattle.format.specs.declared.Spelling.the-variants.{Shortest};
 ghost use Rattle.format.specs.Outcome.{Outcome.value};
 ghost use Rattle.format.specs.Varint.{readVarint};
+ghost use Rattle.format.specs.Packing.{legal};
 ghost use Rattle.format.specs.Opening.{readFields};
 ghost use Rattle.blockwise_linear.specs.Reader.{stepIn, Small, Good};
 ghost use Rattle.vint.specs.Meaning.{spelledBy};
@@ -113,6 +114,16 @@ fn number_at(s: &[u8], at: usize) -> Number
     }
 }
 
+// Whether a width is told to be one that rows are packed by; one that is told is.
+fn lawful(bits: u8) -> bool
+    ensures { λ r. ⌜ (r ≡ true → legal bits ≡ true) ⌝ }
+{
+    if bits <= 56 {
+        return true;
+    }
+    bits == 64
+}
+
 // The line and the width byte at an offset.
 fn entry_at(s: &[u8], at: usize) -> Entry
     ensures { λ r. ⌜ (r .there ≡ true → readFields (now (s .entry)) at ≡ value (shortFields r)) ⌝ }
@@ -130,7 +141,7 @@ fn entry_at(s: &[u8], at: usize) -> Entry
         return NO_ENTRY;
     }
     let bits = s[place];
-    if 56 < bits {
+    if !lawful(bits) {
         return NO_ENTRY;
     }
     Entry {

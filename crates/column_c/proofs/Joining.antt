@@ -1,32 +1,38 @@
 -- A column, or a kind, that is made of numbers, and what is done with it; of numbers that are none what is done leaves lent memory as it was.
---     joined, answers            what is done with a column decides, if there is one
---     lists                      the same, with a lent list
+--     by-number                  a row is read by the block of its number
+--     lists                      what is done with a column decides, with a lent list
 --     listed                     what was written is told
 --     lookup-still, run-still    no rows are found or decoded in a column of no rows
 --     opens                      what was opened is described
 --     judges                     the verdict on values of a kind
 -- Assumes nothing.
-use Prim.Native.Nat.{ℕ, zero, suc, _+_, _-_, min}
+use Prim.Native.Nat.{ℕ, zero, suc, _+_, _-_, _/_, _^_, _<_, min}
 use mathlib.Core.Path.{_≡_, refl, ap, _∙_, subst}
-use mathlib.Core.Bool.{Bool, true, false}
+use mathlib.Core.Bool.{Bool, true, false, _&&_, and-eq-true-iff}
 use mathlib.Core.List.{List, []}
 use native.Mathlib.Omega.{arith}
-use lib.Dec.{leb}
-use borrow.Author.Tests.{le-leb, lt-leb}
+use lib.Dec.{ltb, leb}
+use lib.ListN.{length, getD}
+use borrow.Author.Tests.{le-leb, lt-leb, ltb-true}
 use Rattle.format.specs.declared.Block.{Block}
 use Rattle.format.specs.declared.Checked.{Checked}
+use Rattle.format.specs.declared.Codec.{Codec}
+use Rattle.format.specs.declared.Codec.the-variants.{Linear, Blockwise}
 use Rattle.format.specs.declared.Column.{Column}
 use Rattle.format.specs.declared.Kind.{Kind}
+use Rattle.format.specs.declared.Line.{Line}
 use Rattle.format.specs.declared.Opened.{Opened}
 use Rattle.format.specs.Calls.{StoresAs, OpenedAs}
 use Rattle.format.specs.Checking.{checked}
 use Rattle.format.specs.Lookup.{lookedUp, allRead, rowsPassing}
 use Rattle.format.specs.Opening.{Loaded, tableIn}
 use Rattle.format.specs.Outcome.{Outcome, Outcome.value, _>>=_, _>>_, demand, howMany, stored}
+use Rattle.format.specs.Reading.{blockAt, placeIn, rowFits, fits, packedOf, valueIn, rowIn, rowAt}
 use Rattle.format.specs.Refusals.{openedMeaning, checkedMeaning}
 use Rattle.format.specs.Runs.{decoded, readRun}
 use Rattle.format.specs.Sheets.{openedUnder, underSheet}
 use Rattle.format.specs.Typed.{storedAs}
+use Rattle.format.specs.Word.{modAdd}
 use Rattle.checking.specs.Checked.{CheckedAs}
 use Rattle.plain.specs.declared.Made.{Made}
 use Rattle.plain.specs.declared.Made.the-variants.{Column as MadeColumn, Refused as NotMade}
@@ -35,19 +41,44 @@ use Rattle.plain.specs.declared.kinds.Known.the-variants.{Kind as KnownKind, Re
 use Rattle.telling.specs.Checking.{verdictNumbers}
 use Rattle.plain.specs.Explaining.{Tells}
 use Rattle.plain.specs.Kinds.{kindFrom, knownMeaning, kindOf, sheetOf}
-use Rattle.plain.specs.Numbers.{after, columnFrom, madeMeaning, noColumn, columnOf, Answers, Describes}
-use Rattle.column_c.specs.Calls.{Lists, Loads, Judges}
+use Rattle.plain.specs.Numbers.{after, columnWith, codecFrom, countsFit, columnFrom, madeMeaning, noColumn, columnOf, Answers, Describes}
+use Rattle.direct_rows.specs.Short.{rowOf}
+use Rattle.column_c.specs.Calls.{rowFrom, Lists, Loads, Judges}
 
 -- ---- columns
 
--- the column c is the one that was made, or that of no rows
-pub joined : {B : Type 0} (k : Column → Outcome B) (ns : List ℕ) (made : Made) → madeMeaning made ≡ columnFrom ns → {c : Column} → c ≡ columnOf made → {x : Outcome B} → x ≡ k c → after (madeMeaning made) x ≡ (columnFrom ns >>= k)
-joined k ns (MadeColumn d) means is same = same ∙ ap k is ∙ ap (λ (o : Outcome Column). o >>= k) means
-joined k ns (NotMade r) means is same = ap (λ (o : Outcome Column). o >>= k) means
+-- a row is read by the block of its number, which only a Blockwise column asks for
+module _ (ns : List ℕ) (t : List Block) (s : List ℕ) (r k : ℕ) (number : getD ns 0 0 ≡ 2 → k ≡ modAdd (getD ns 10 0) r / 512) (few : r < 2 ^ 32) where
+  -- a column of a Linear codec, if its width is a byte
+  by-line : (l : Line) (w : ℕ) (byte : Bool) (b : Block) → (demand byte 13 [] >> value (Linear l w) >>= (λ (codec : Codec). value (columnWith ns codec)) >>= (λ (col : Column). rowIn col (length t) b s r))
+      ≡ (demand byte 13 [] >> value (Linear l w) >>= (λ (codec : Codec). value (columnWith ns codec)) >>= (λ (col : Column). rowAt col t s r))
+  unfolding rowIn fits rowFits packedOf placeIn valueIn
+  by-line l w true b = refl
+  by-line l w false b = refl
 
-pub answers : (k : Column → Outcome ℕ) (ns : List ℕ) (made : Made) → madeMeaning made ≡ columnFrom ns → {c : Column} → c ≡ columnOf made → {x : Outcome ℕ} → x ≡ k c
-    → {result : ℕ} {two : List ℕ} → Answers (after (madeMeaning made) x) result two → Answers (columnFrom ns >>= k) result two
-answers k ns made means is same {result} {two} a = subst (λ (o : Outcome ℕ). Answers o result two) (joined k ns made means is same) a
+  by-codec : (code : ℕ) → getD ns 0 0 ≡ code → countsFit ns ≡ true
+      → (codecFrom code (getD ns 7 0) (getD ns 8 0) (getD ns 9 0) >>= (λ (codec : Codec). value (columnWith ns codec)) >>= (λ (col : Column). rowIn col (length t) (blockAt t k) s r))
+      ≡ (codecFrom code (getD ns 7 0) (getD ns 8 0) (getD ns 9 0) >>= (λ (codec : Codec). value (columnWith ns codec)) >>= (λ (col : Column). rowAt col t s r))
+  unfolding codecFrom rowIn fits rowFits packedOf placeIn valueIn
+  by-codec zero is fit = refl
+  by-codec (suc zero) is fit = by-line (record { slope = getD ns 7 0; intercept = getD ns 8 0 }) (getD ns 9 0) (ltb (getD ns 9 0) (2 ^ 8)) (blockAt t k)
+  by-codec (suc (suc zero)) is fit =
+      let two = and-eq-true-iff (ltb (getD ns 4 0) (2 ^ 32) && ltb (getD ns 10 0) (2 ^ 32)) (ltb (getD ns 11 0) (2 ^ 32)) .0 fit in
+      let first = ltb-true (getD ns 10 0) (2 ^ 32) (and-eq-true-iff (ltb (getD ns 4 0) (2 ^ 32)) (ltb (getD ns 10 0) (2 ^ 32)) .0 (two .0) .1) in
+      let same : k ≡ (getD ns 10 0 + r) / 512 = omega (arith, number is, first, few) in
+      ap (λ (q : ℕ). rowIn (columnWith ns Blockwise) (length t) (blockAt t q) s r) same
+  by-codec (suc (suc (suc code))) is fit = refl
+
+  by-counts : (fit : Bool) → countsFit ns ≡ fit
+      → (demand fit 13 [] >> (codecFrom (getD ns 0 0) (getD ns 7 0) (getD ns 8 0) (getD ns 9 0) >>= (λ (codec : Codec). value (columnWith ns codec))) >>= (λ (col : Column). rowIn col (length t) (blockAt t k) s r))
+      ≡ (demand fit 13 [] >> (codecFrom (getD ns 0 0) (getD ns 7 0) (getD ns 8 0) (getD ns 9 0) >>= (λ (codec : Codec). value (columnWith ns codec))) >>= (λ (col : Column). rowAt col t s r))
+  by-counts true is = by-codec (getD ns 0 0) refl is
+  by-counts false is = refl
+
+  pub by-number : {b : Block} {result : ℕ} {two : List ℕ} → b ≡ blockAt t k → Answers (rowOf ns (length t) b s r) result two → Answers (rowFrom ns t s r) result two
+  unfolding columnFrom
+  by-number {b} {result} {two} is a =
+      subst (λ (o : Outcome ℕ). Answers o result two) (ap (λ (d : Block). rowOf ns (length t) d s r) is ∙ by-counts (countsFit ns) refl) a
 
 pub lists : (k : Column → Outcome (List ℕ)) (ns : List ℕ) (made : Made) → madeMeaning made ≡ columnFrom ns → ((l : List ℕ) → stored (k noColumn) l ≡ l) → {c : Column} → c ≡ columnOf made
     → {said : Outcome ℕ} {result : ℕ} {two old new : List ℕ} → StoresAs (k c) said old new → Answers (after (madeMeaning made) said) result two → Lists (columnFrom ns >>= k) result two old new

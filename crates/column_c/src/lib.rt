@@ -21,12 +21,10 @@ ghost use Rattle.column_c.specs.Calls.{rowFrom, foundFrom, runFrom, List
 use format::Block;
 use plain::column_from;
 use plain::column_of;
-use plain::window_row;
 use telling::column_told;
 use telling::found_told;
 use telling::length_told;
 use telling::open_told;
-use telling::row_told;
 use telling::run_told;
 use telling::stats_told;
 
@@ -112,11 +110,10 @@ pub extern "C" fn hulemartob_row(
 ) -> u64
     ensures { λ r. ⌜ Answers (rowFrom (now (column .entry)) (now (table .entry)) (now (bytes .entry)) row) r (now (refusal .exit)) ⌝ }
 {
-    let made = column_from(column);
-    let opened = column_of(made);
-    let at = window_row(row);
-    let answer = records::row(opened, table, bytes, at);
-    row_told(made, answer, refusal)
+    let blocks = table.len();
+    let k = plain_calls::block_for(column, row);
+    let block = records::block_at(table, k);
+    plain_calls::row_by(column, blocks, block, bytes, row, refusal)
 }
 
 // How many rows were found, 0 on refusal: those from `first` to `end` whose value lies from `low` to `high`. They are the first entries of `found`.

@@ -156,10 +156,10 @@ windows-compared {s} {t} {c} {d} e f = λ i. compared (λ r. shown-row e r i) (�
 
 module _ (s t : List ℕ) (o p : Loaded) (e : openedHere s ≡ value o) (f : openedHere t ≡ value p) where
   -- each is seen through the window of all its rows
-  pub left-shows : Shows s (o .column)
+  left-shows : Shows s (o .column)
   left-shows = opens-shows (record { found = o; opened = e; column = refl })
 
-  pub right-shows : Shows t (p .column)
+  right-shows : Shows t (p .column)
   right-shows = opens-shows (record { found = p; opened = f; column = refl })
 
   -- the comparison is that of these windows

@@ -9,6 +9,7 @@ pub mod RowLines
 pub mod Feeds
 pub mod Comparisons
 pub mod Columns
+pub mod Cases
 -- how a comparison begins
 pub mod Beginnings
 -- what the calls come to

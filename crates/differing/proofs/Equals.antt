@@ -1,9 +1,11 @@
 -- Rows with equal answers, over any two readings.
---     refused-equal                                          two refused answers
+--     refused-equal                                               two refused answers
 --     Passing, pass-starts, pass-more, pass-stops, pass-ends      a loop over rows
---     equal-by                                               other readings that agree
---     values-equal                                           chunks that were decoded as a whole
---     shared-fits                                            a chunk of both columns
+--     equal-by                                                    other readings that agree
+--     values-equal, values-same, values-differ                    chunks that were decoded as a whole, and two of their values
+--     shared-none, shared-left-lesser, shared-right-lesser        the size of a chunk of both columns
+--     shared-left, shared-right, shared-most, looked-shared       such a chunk
+--     chunk-for                                                   a list of a chunk's size
 -- Assumes nothing.
 use Prim.Native.Nat.{ℕ, _+_, _-_, _%_, _^_, _≤_, _<_, min, max}
 use mathlib.Core.Path.{_≡_, sym, ap, _∙_}

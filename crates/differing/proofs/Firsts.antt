@@ -1,10 +1,10 @@
 -- What the first difference says, over any two readings.
 --     none-differs                  there is none exactly if the answers at all rows from the given one on are equal
 --     FirstIn, first-differs        else it is the first row whose answers differ, with both
---     no-line, first-line           from row 0 on it stands for the comparison's text: `lines 0`, or its first line
+--     no-line, first-line           from row 0 on it stands for the comparison's text: `lines 0` exactly if there is none, else its first line
 --     difference-injective          an answer is told by what it means
 -- Assumes nothing.
-use Prim.Native.Nat.{ℕ, zero, suc, _+_, _-_, _≤_, _<_}
+use Prim.Native.Nat.{ℕ, zero, suc, _+_, _-_, _/_, _%_, _≤_, _<_}
 use mathlib.Core.Path.{_≡_, refl, sym, ap, _∙_}
 use mathlib.Core.Bool.{Bool, true, false}
 use mathlib.Core.Logic.{_↔_, ⊎-elim}
@@ -12,11 +12,13 @@ use mathlib.Core.Option.{none, some}
 use mathlib.Core.List.{List, [], _∷_, _++_, append-assoc}
 use native.Mathlib.Nat.{eq-or-lt-of-le}
 use native.Mathlib.Omega.{arith}
-use lib.ListN.{length}
+use borrow.Author.Tests.{ltb-true, ltb-false}
+use lib.Dec.{ltb}
+use lib.ListN.{length, getD}
 use Rattle.format.specs.Comparing.{equalAnswers, differing, pairLine, pairLines, compared}
-use Rattle.format.specs.Listing.{ascii, namedLine}
+use Rattle.format.specs.Listing.{ascii, decimalIn, decimal, named, namedLine}
 use Rattle.format.specs.Lookup.{rowsPassing}
-use Rattle.format.specs.Outcome.{Outcome}
+use Rattle.format.specs.Outcome.{Outcome, pick}
 use Rattle.format.proofs.Answers.{row-injective}
 use Rattle.differing.specs.declared.Difference.{Difference}
 use Rattle.differing.specs.declared.Difference.the-variants.{Equal, At}
@@ -26,6 +28,23 @@ use Rattle.differing.proofs.Seeks.{one-equal, one-differs}
 -- one pair of answers
 some-same : {p q : Pair} → some p ≡ some q → p ≡ q
 some-same e = cc
+
+-- a number's digits begin with one
+digits : (most n : ℕ) → n < most → (d : ℕ) × (rest : List ℕ) × (decimalIn most n ≡ (48 + d) ∷ rest) × (d < 10)
+unfolding decimalIn
+digits zero n h = absurd (omega arith)
+digits (suc most) n h = go (ltb n 10) refl (digits most (n / 10))
+  where
+    go : (t : Bool) → ltb n 10 ≡ t → (n / 10 < most → (d : ℕ) × (rest : List ℕ) × (decimalIn most (n / 10) ≡ (48 + d) ∷ rest) × (d < 10))
+        → (d : ℕ) × (rest : List ℕ) × (pick t ((48 + n) ∷ []) (decimalIn most (n / 10) ++ ((48 + n % 10) ∷ [])) ≡ (48 + d) ∷ rest) × (d < 10)
+    go true e shorter = (n, [], refl, ltb-true n 10 e)
+    go false e shorter =
+        let f = shorter (omega (arith, ltb-false n 10 e)) in
+        (f .0, f .1 ++ ((48 + n % 10) ∷ []), ap (λ (l : List ℕ). l ++ ((48 + n % 10) ∷ [])) (f .2), f .3)
+
+decimal-first : (n : ℕ) {l : List ℕ} → decimalIn (suc n) n ≡ l → decimal n ≡ l
+unfolding decimal
+decimal-first n e = e
 
 module _ (left right : ℕ → Outcome ℕ) where
   abbrev equalAt : ℕ → Bool
@@ -98,13 +117,22 @@ module _ (left right : ℕ → Outcome ℕ) where
   text-rows : (rows : ℕ) → differing left right 0 (rows - 0) ≡ differing left right 0 rows
   text-rows rows = let all : rows - 0 ≡ rows = omega arith in ap (differing left right 0) all
 
-  pub no-line : (rows : ℕ) → firstDifference left right rows 0 ≡ none → compared left right rows ≡ namedLine (ascii "lines ") 0
-  unfolding firstDifference compared pairLines
-  no-line rows e = go (differing left right 0 rows) (text-rows rows)
+  -- `lines 0` exactly if nothing differs
+  pub no-line : (rows : ℕ) → (firstDifference left right rows 0 ≡ none) ↔ (compared left right rows ≡ namedLine (ascii "lines ") 0)
+  unfolding firstDifference compared pairLines pairLine namedLine named
+  no-line rows = (there (differing left right 0 rows) (text-rows rows), back (differing left right 0 rows) (text-rows rows))
     where
-      go : (l : List ℕ) → differing left right 0 (rows - 0) ≡ l → pairLines left right l ++ namedLine (ascii "lines ") (length l) ≡ namedLine (ascii "lines ") 0
-      go [] is = refl
-      go (r ∷ rs) is = absurd (let z = sym (ap (firstOf left right) is) ∙ e in let o : _≡_ {A = ℕ} 0 1 = cc in omega arith)
+      there : (l : List ℕ) → differing left right 0 (rows - 0) ≡ l → firstOf left right (differing left right 0 (rows - 0)) ≡ none → pairLines left right l ++ namedLine (ascii "lines ") (length l) ≡ namedLine (ascii "lines ") 0
+      there [] is e = refl
+      there (r ∷ rs) is e = absurd (let z = sym (ap (firstOf left right) is) ∙ e in let o : _≡_ {A = ℕ} 0 1 = cc in omega arith)
+
+      back : (l : List ℕ) → differing left right 0 (rows - 0) ≡ l → pairLines left right l ++ namedLine (ascii "lines ") (length l) ≡ namedLine (ascii "lines ") 0 → firstOf left right (differing left right 0 (rows - 0)) ≡ none
+      back [] is e = ap (firstOf left right) is
+      back (r ∷ rs) is e =
+          let d = digits (suc r) r (omega arith) in
+          let first : getD (pairLines left right (r ∷ rs) ++ namedLine (ascii "lines ") (length (r ∷ rs))) 0 0 ≡ 48 + d .0 = rw (decimal-first r (d .2)) in
+          let other : getD (pairLines left right (r ∷ rs) ++ namedLine (ascii "lines ") (length (r ∷ rs))) 0 0 ≡ 108 = ap (λ (l : List ℕ). getD l 0 0) e in
+          absurd (omega (arith, first, other, d .3))
 
   pub first-line : (rows : ℕ) (p : Pair) → firstDifference left right rows 0 ≡ some p → (rest : List ℕ) × (compared left right rows ≡ pairLine (p .row) (p .left) (p .right) ++ rest)
   unfolding firstDifference compared pairLines

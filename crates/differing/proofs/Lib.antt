@@ -4,6 +4,7 @@
 pub mod Equals
 -- a search under way
 pub mod Seeks
--- what the first difference says, and cases
+-- what the first difference says, for two columns, and cases
 pub mod Firsts
+pub mod Columns
 pub mod Cases

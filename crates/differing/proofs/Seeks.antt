@@ -1,9 +1,10 @@
 -- A search for the first difference under way, over any two readings.
---     passed, found                     what is left behind rows that were looked at
---     started                           the beginning
---     is-on-hand, is-over               the phase by what the state says
+--     one-equal, one-differs            the rows that differ, by the first
+--     is-over, is-on-hand               the phase by what the state says
 --     goes-behind, stops-at             a turn
---     go-less, stop-less                what is left falls
+--     starts                            the beginning
+--     go-less, less-to-go               what is left falls
+--     up-to-end                         rows that lie in a window lie before the end
 -- Assumes nothing.
 use Prim.Native.Nat.{ℕ, zero, suc, _+_, _-_, _≤_, _<_}
 use mathlib.Core.Path.{_≡_, refl, sym, ap, _∙_}
@@ -58,11 +59,11 @@ module _ (left right : ℕ → Outcome ℕ) where
         rw (parts, skipped r n (rows - (r + n)) (f .before))
 
     -- all of them are equal
-    pub passed : size ≤ n → firstDifference left right rows r ≡ firstDifference left right rows (r + size)
+    passed : size ≤ n → firstDifference left right rows r ≡ firstDifference left right rows (r + size)
     passed all = let same : n ≡ size = omega (arith, f .most) in behind ∙ ap (λ (k : ℕ). firstDifference left right rows (r + k)) same
 
     -- one differs
-    pub found : n < size → firstDifference left right rows r ≡ some (record { row = r + n; left = left (r + n); right = right (r + n) })
+    found : n < size → firstDifference left right rows r ≡ some (record { row = r + n; left = left (r + n); right = right (r + n) })
     found less = behind ∙ first-here rows (r + n) (omega arith) (f .next less)
 
   -- no rows are left
@@ -83,7 +84,7 @@ module _ (left right : ℕ → Outcome ℕ) where
 
     -- ---- going on with a row
 
-    pub goes-on : (at : ℕ) → firstDifference left right rows from ≡ firstDifference left right rows at → Seeking left right rows from (onwards at rows)
+    goes-on : (at : ℕ) → firstDifference left right rows from ≡ firstDifference left right rows at → Seeking left right rows from (onwards at rows)
     goes-on at rest = go (ltb at rows) refl
       where
         go : (t : Bool) → ltb at rows ≡ t → Seeking left right rows from (onwards at rows)

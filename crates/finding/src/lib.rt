@@ -1,4 +1,4 @@
-// Looking rows up: a walk whose first pass counts the rows in the range, and whose second stores them.
+// Looking rows up: a walk whose first pass counts the rows in the range, and whose second stores them, reading only where the count leaves open which they are.
 ghost use mathlib.Core.Path.{_≡_};
 ghost use mathlib.Core.Bool.{Bool, true};
 ghost use mathlib.Core.List.{List};
@@ -93,7 +93,7 @@ fn count_within(values: &[u64], low: u64, high: u64) -> usize
 }
 
 // Internal: asks for rows below 2^32. Puts the rows whose values lie in the range, the first value's row being `row`, over the values, from the front on, and returns how many. Each row is put there,
-// and the next one over it if its value lies outside, so that no branch is to be guessed; what is put over a value is its own row, or one before.
+// and the next one over it if its value lies outside, so that no branch is to be guessed. No row is put behind its own value, so that the values to come stand as they were.
 fn gather_rows(values: &mut [u64], low: u64, high: u64, row: u32) -> usize
     requires { ⌜ row + length (now values) ≤ 2 ^ 32 ⌝ }
     ensures { λ n. ⌜ (n ≤ length (now (values .entry))) × (take n (now (values .exit)) ≡ rowsAmong (within low high) row (now (values .entry))) ⌝ }

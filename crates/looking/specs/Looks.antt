@@ -6,6 +6,8 @@ use mathlib.Core.Logic.{_⊎_}
 use mathlib.Core.List.{List}
 use lib.ListN.{length}
 use Rattle.format.specs.declared.Block.{Block}
+use Rattle.format.specs.declared.Codec.{Codec}
+use Rattle.format.specs.declared.Codec.the-variants.{Bitpacked, Blockwise}
 use Rattle.format.specs.declared.Column.{Column}
 use Rattle.format.specs.declared.Line.{Line}
 use Rattle.format.specs.Line.{lineAt}
@@ -29,6 +31,18 @@ pub record Valued (o : Outcome ℕ) : Type 0 where
 -- n rows from r on have values, whatever the bytes
 pub record Sure (col : Column) (b : Block) (r n : ℕ) : Type 0 where
   pub each : (s : List ℕ) (x : ℕ) → r ≤ x → x < r + n → Valued (valueAt col b s x)
+
+-- n rows from r on have values in some bytes
+pub record Stands (col : Column) (b : Block) (s : List ℕ) (r n : ℕ) : Type 0 where
+  pub each : (x : ℕ) → r ≤ x → x < r + n → Valued (valueAt col b s x)
+
+-- a codec by which a row has a value wherever its multiple is up to the count
+abbrev pub Counted : Codec → Type 0
+Counted codec = (codec ≡ Bitpacked) ⊎ (codec ≡ Blockwise)
+
+-- the column whose values are another's multiples
+abbrev pub multiplesOf : Column → Column
+multiplesOf col = record { minimum = 0; gcd = 1; count = col .count; rows = col .rows; start = col .start; size = col .size; window = col .window; codec = col .codec }
 
 -- a line of a slope rises, or falls, by a product below 2^63 up to a place
 abbrev pub Gentle : (slope to : ℕ) → Type 0

@@ -3,11 +3,11 @@ ghost use mathlib.Core.Path.{_≡_};
 ghost use mathlib.Core.Bool.{true};
 ghost use Prim.Native.Nat.{_+_, _*_, _%_, _^_, _≤_, _<_};
 ghost use Rattle.format.specs.Packing.{width};
-ghost use Rattle.format.specs.Reading.{rowIn};
+ghost use Rattle.format.specs.Reading.{placeOf, rowIn};
 ghost use Rattle.format.specs.Runs.{readRun};
 ghost use Rattle.reading.specs.declared.reader.Decoded.the-variants.{Whole};
-ghost use Rattle.reading.specs.Chunks.{Chunk};
-ghost use Rattle.looking.specs.Looks.{LookedAs, Sure, Gentle, Near};
+ghost use Rattle.reading.specs.Chunks.{Chunk, Fitting};
+ghost use Rattle.looking.specs.Looks.{LookedAs, Sure, Stands, Gentle, Near, Counted, multiplesOf};
 use format::Block;
 use format::Codec;
 use format::Column;
@@ -92,7 +92,60 @@ fn is_sure(column: Column, block: Block, first: u32, size: u32) -> bool
     }
 }
 
-// Internal: asks for a chunk. Whether all of its rows have values, as far as that is told by its last row and the column alone.
+// Whether a column of this codec has a value wherever a multiple is up to the count.
+fn is_counted(codec: Codec) -> bool
+    ensures { λ r. ⌜ (r ≡ true → Counted codec) ⌝ }
+{
+    match codec {
+        Codec::Bitpacked => true,
+        Codec::Linear(_, _) => false,
+        Codec::Blockwise => true,
+    }
+}
+
+// The column whose values are another's multiples.
+fn multiples(column: Column) -> Column
+    ensures { λ r. ⌜ r ≡ multiplesOf column ⌝ }
+{
+    let window = column.window;
+    let codec = column.codec;
+    Column {
+        minimum: 0,
+        gcd: 1,
+        count: column.count,
+        rows: column.rows,
+        start: column.start,
+        size: column.size,
+        window,
+        codec,
+    }
+}
+
+// Internal: asks for rows of one block that fit as a whole. Whether each has a value, as its multiple tells, where that is less work than its value: true only if so.
+fn is_within(column: Column, block: Block, bytes: &[u8], first: ColumnRow, size: usize) -> bool
+    requires { ⌜ Chunk (column .rows) 0 (first .0) size ⌝ }
+    requires { ⌜ Fitting column (placeOf column block (first .0)) (now bytes) ⌝ }
+    ensures { λ r. ⌜ (r ≡ true → Stands column block (now (bytes .entry)) (first .0) size) ⌝ }
+{
+    if column.gcd <= 1 {
+        return false;
+    }
+    let codec = column.codec;
+    if !is_counted(codec) {
+        return false;
+    }
+    let mut buffer = [0u64; 512];
+    let n = reading::reader::decode_fitting(
+        multiples(column),
+        block,
+        bytes,
+        first,
+        &mut buffer[..size],
+    );
+    n == size
+}
+
+// Internal: asks for a chunk. Whether all of its rows have values: as its last row and the column alone tell, or their multiples.
 fn is_whole(
     column: Column,
     blocks: usize,
@@ -108,7 +161,10 @@ fn is_whole(
     match reading::reader::row_in(column, blocks, block, bytes, last) {
         RowRead::Value(_) => {
             let at = reading::reader::column_row(column.window.first, WindowRow(first));
-            is_sure(column, block, at.0, size)
+            if is_sure(column, block, at.0, size) {
+                return true;
+            }
+            is_within(column, block, bytes, at, size as usize)
         }
         RowRead::Refused(_) => false,
     }

@@ -16,7 +16,6 @@ use format::Line;
 use format::Refusal;
 use format::Spelling;
 use format::Window;
-use format::WindowRow;
 
 // The two numbers where nothing is refused.
 pub const ACCEPTED: [u64; 2] = [0, 0];
@@ -155,11 +154,4 @@ pub fn column_of(made: Made) -> Column
             codec: Codec::Bitpacked,
         },
     }
-}
-
-// A row of a window, by its number.
-pub fn window_row(row: u32) -> WindowRow
-    ensures { λ r. ⌜ r .0 ≡ row ⌝ }
-{
-    WindowRow(row)
 }

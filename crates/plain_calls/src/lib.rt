@@ -1,17 +1,25 @@
 // Calls on plain numbers that need no table, for `column_c`: a kind is its number, a column its twelve numbers. What is neither is refused before all else.
 ghost use mathlib.Core.Path.{_≡_};
-ghost use lib.ListN.{length};
+ghost use Prim.Native.Nat.{_/_};
+ghost use lib.ListN.{length, getD};
 ghost use Rattle.format.specs.Calls.{SerializedAs};
 ghost use Rattle.format.specs.Refusals.{statedMeaning};
-ghost use Rattle.plain.specs.Numbers.{madeMeaning};
+ghost use Rattle.format.specs.Word.{modAdd};
+ghost use Rattle.plain.specs.Numbers.{madeMeaning, Answers};
+ghost use Rattle.direct_rows.specs.Short.{rowOf};
 ghost use Rattle.plain_calls.specs.Calls.{statedFrom, writtenFrom, narrowedFrom};
+use format::Block;
 use format::Narrowed;
 use format::Stated;
+use format::WindowRow;
 use format::Written;
+use plain::ACCEPTED;
 use plain::Made;
 use plain::column_from;
+use plain::column_of;
 use plain::kinds::Known;
 use plain::kinds::kind_from;
+use telling::row_told;
 
 // The statistics of the numbers that a list of values of a kind is stored as.
 pub fn stated(kind: u32, values: &[u64]) -> Stated
@@ -45,4 +53,52 @@ pub fn narrowed(numbers: &[u64; 12], first: u32, count: u32) -> Made
         Narrowed::Column(narrowed) => Made::Column(narrowed),
         Narrowed::Refused(q, _) => Made::Refused(q),
     }
+}
+
+// The block that a row of the window of the column of twelve numbers is read by, the row counted modulo 2^64. Where the codec has no blocks it is 2^64 - 1, which no table has.
+pub fn block_for(numbers: &[u64; 12], row: u32) -> usize
+    ensures { λ k. ⌜ (getD (now (numbers .entry)) 0 0 ≡ 2 → k ≡ modAdd (getD (now (numbers .entry)) 10 0) row / 512) ⌝ }
+{
+    if numbers[0] != 2 {
+        return usize::MAX;
+    }
+    (word::add(numbers[10], row as u64) / 512) as usize
+}
+
+// A row by the long way: the column is made of its numbers, and each test has its refusal.
+fn row_told_apart(
+    numbers: &[u64; 12],
+    blocks: usize,
+    block: Block,
+    bytes: &[u8],
+    row: u32,
+    refusal: &mut [u64; 2],
+) -> u64
+    ensures { λ r. ⌜ Answers (rowOf (now (numbers .entry)) blocks block (now (bytes .entry)) row) r (now (refusal .exit)) ⌝ }
+{
+    let made = column_from(numbers);
+    let opened = column_of(made);
+    let answer = reading::reader::row_in(opened, blocks, block, bytes, WindowRow(row));
+    row_told(made, answer, refusal)
+}
+
+// The value of a row of the column of twelve numbers, 0 on refusal, with its block out of a table of so many: by the short way, or else by the long one. The bytes are lent
+// anew to the long way, so that the short one has them in registers.
+pub fn row_by(
+    numbers: &[u64; 12],
+    blocks: usize,
+    block: Block,
+    bytes: &[u8],
+    row: u32,
+    refusal: &mut [u64; 2],
+) -> u64
+    ensures { λ r. ⌜ Answers (rowOf (now (numbers .entry)) blocks block (now (bytes .entry)) row) r (now (refusal .exit)) ⌝ }
+{
+    let short = direct_rows::row(numbers, blocks, block, bytes, row);
+    if short.found {
+        *refusal = ACCEPTED;
+        return short.value;
+    }
+    let n = bytes.len();
+    row_told_apart(numbers, blocks, block, &bytes[..n], row, refusal)
 }

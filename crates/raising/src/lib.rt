@@ -3,7 +3,6 @@
 ghost use mathlib.Core.Path.{_≡_};
 ghost use mathlib.Core.Bool.{true};
 ghost use Prim.Native.Nat.{ℕ, _+_, _*_, _^_, _≤_, _<_};
-ghost use lib.ListN.{length};
 ghost use Rattle.format.specs.declared.Line.{Line};
 ghost use Rattle.format.specs.Line.{lineAt};
 ghost use Rattle.format.specs.Reading.{scaled};

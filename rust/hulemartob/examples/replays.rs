@@ -2,7 +2,7 @@
 //!
 //!     cargo run --offline --release --example replays [REPEATS]
 //!
-//! Both sides run over one column of 65,536 rows of each codec, taking turns. A replay decodes each chunk once; a lookup that finds rows decodes it twice, but stores them.
+//! Both sides run over one column of 65,536 rows of each codec, taking turns. A replay decodes each chunk once; a lookup over several chunks that finds rows decodes them twice, but stores them.
 
 use std::hint::black_box;
 use std::time::Instant;

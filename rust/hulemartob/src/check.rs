@@ -79,6 +79,10 @@ impl std::error::Error for Mismatch {
 /// assert_eq!(check(Sheet::Two, &bytes, &[-10i64, 10]), Err(Mismatch::Counts { column: 3, list: 2 }));
 /// # Ok::<(), hulemartob::Error>(())
 /// ```
+///
+/// # Errors
+///
+/// The first reason why the column does not hold the list.
 pub fn check<T: Value>(sheet: Sheet, bytes: &[u8], values: &[T]) -> Result<(), Mismatch> {
     raw::check(T::KIND, sheet as u32, bytes, &T::words(values))
 }
@@ -93,6 +97,10 @@ impl<T: Value, B: AsRef<[u8]>> Column<T, B> {
     /// assert!(column.check(Sheet::Two, &[10, 30, 20]).is_ok());
     /// # Ok::<(), hulemartob::Error>(())
     /// ```
+    ///
+    /// # Errors
+    ///
+    /// The first reason why the column does not hold the list.
     pub fn check(&self, sheet: Sheet, values: &[T]) -> Result<(), Mismatch> {
         check(sheet, self.bytes(), values)
     }

@@ -55,7 +55,7 @@ pub struct Line {
 }
 
 impl<B: AsRef<[u8]>> Column<u64, B> {
-    /// Opens the column that `bytes` hold, under sheet 1: bytes behind the column are accepted, and so are numbers in more bytes than they need. Refused 5 to 10.
+    /// Opens the column that `bytes` hold, under sheet 1: bytes behind the column are accepted, and so are numbers in more bytes than they need.
     ///
     /// ```
     /// use hulemartob::{Column, Error, encode};
@@ -67,11 +67,16 @@ impl<B: AsRef<[u8]>> Column<u64, B> {
     /// assert_eq!(Column::open(&bytes[..5]).unwrap_err(), Error::AreaShort);
     /// # Ok::<(), Error>(())
     /// ```
+    ///
+    /// # Errors
+    ///
+    /// Where the bytes are no column, 5 to 10: [`NotAColumn`](Error::NotAColumn), [`BadField`](Error::BadField), [`GcdZero`](Error::GcdZero),
+    /// [`OutOfRange`](Error::OutOfRange), [`IllegalWidth`](Error::IllegalWidth), [`AreaShort`](Error::AreaShort).
     pub fn open(bytes: B) -> Result<Column<u64, B>, Error> {
         Column::open_under(Sheet::One, bytes)
     }
 
-    /// Opens the column that `bytes` hold under an acceptance sheet. Refused 5 to 10, then 17 with the first offending byte.
+    /// Opens the column that `bytes` hold under an acceptance sheet.
     ///
     /// ```
     /// use hulemartob::{Column, Error, Sheet, encode};
@@ -83,6 +88,10 @@ impl<B: AsRef<[u8]>> Column<u64, B> {
     /// assert_eq!(Column::open_under(Sheet::Two, &bytes).unwrap_err(), Error::Offending { offset: 6 });
     /// # Ok::<(), Error>(())
     /// ```
+    ///
+    /// # Errors
+    ///
+    /// Those of [`open`](Column::open), then [`Offending`](Error::Offending).
     pub fn open_under(sheet: Sheet, bytes: B) -> Result<Column<u64, B>, Error> {
         let data = bytes.as_ref();
         let (numbers, longer, table) = match raw::open(sheet as u32, data, &mut []) {
@@ -120,7 +129,15 @@ impl<T: Value, B: AsRef<[u8]>> Column<T, B> {
         Column { bytes: self.bytes, numbers: self.numbers, longer: self.longer, table: self.table, values: PhantomData }
     }
 
-    /// The same column over borrowed bytes.
+    /// The same column over borrowed bytes, for windows of a column that owns its bytes.
+    ///
+    /// ```
+    /// use hulemartob::{Column, encode};
+    ///
+    /// let column = Column::open(encode(&[10u64, 30, 20])?)?;
+    /// assert_eq!(column.borrowed().window(1..)?.to_vec()?, [30, 20]);
+    /// # Ok::<(), hulemartob::Error>(())
+    /// ```
     pub fn borrowed(&self) -> Column<T, &[u8]> {
         self.with(self.bytes(), self.numbers)
     }
@@ -149,14 +166,18 @@ impl<T: Value, B: AsRef<[u8]>> Column<T, B> {
         self.len() == 0
     }
 
-    /// The value of a row. Refused 12 behind the last row, and 14 where the column is damaged.
+    /// The value of a row.
+    ///
+    /// # Errors
+    ///
+    /// [`NoSuchRow`](Error::NoSuchRow) behind the last row, [`OutOfBounds`](Error::OutOfBounds) where the column is damaged. A column that was
+    /// [made up](crate::raw), and no other, also [`Unfit`](Error::Unfit); so it is wherever rows are read.
     #[inline]
     pub fn get(&self, row: u32) -> Result<T, Error> {
         self.raw().row(row).map(T::from_stored)
     }
 
-    /// The values of the rows from `first` on, as many as fill the lent list. A refusal leaves the list as it was. Refused 12 if the run leaves the rows, then
-    /// as the first row that [`get`](Column::get) refuses.
+    /// The values of the rows from `first` on, as many as fill the lent list. A refusal leaves the list as it was.
     ///
     /// ```
     /// use hulemartob::{Column, Error, encode};
@@ -170,13 +191,17 @@ impl<T: Value, B: AsRef<[u8]>> Column<T, B> {
     /// # Ok::<(), Error>(())
     /// ```
     ///
-    /// That a refusal leaves the list as it was costs a second walk over runs of more than 512 rows, which [`to_vec`](Column::to_vec) and
-    /// [`iter`](Column::iter) do not take.
+    /// That a refusal leaves the list as it was may cost a second walk over runs of more than 512 rows, which [`to_vec`](Column::to_vec),
+    /// [`read_all`](Column::read_all) and [`iter`](Column::iter) do not take.
+    ///
+    /// # Errors
+    ///
+    /// [`NoSuchRow`](Error::NoSuchRow) if the run leaves the rows, then that of the first row that [`get`](Column::get) refuses.
     pub fn read_into(&self, first: u32, out: &mut [T]) -> Result<(), Error> {
         read_run(self.raw(), first, out)
     }
 
-    /// The values of all rows. Refused as the first row that [`get`](Column::get) refuses.
+    /// The values of all rows.
     ///
     /// A column of a few bytes may claim 2^32 - 1 rows: where bytes come from elsewhere, look at [`len`](Column::len) first.
     ///
@@ -186,6 +211,10 @@ impl<T: Value, B: AsRef<[u8]>> Column<T, B> {
     /// assert_eq!(Column::open(encode(&[10u64, 30, 20])?)?.to_vec()?, [10, 30, 20]);
     /// # Ok::<(), hulemartob::Error>(())
     /// ```
+    ///
+    /// # Errors
+    ///
+    /// That of the first row that [`get`](Column::get) refuses.
     pub fn to_vec(&self) -> Result<Vec<T>, Error> {
         let mut values = vec![T::default(); self.len() as usize];
         self.read_chunks(&mut values)?;
@@ -202,6 +231,10 @@ impl<T: Value, B: AsRef<[u8]>> Column<T, B> {
     /// assert_eq!(values, [10, 30, 20]);
     /// # Ok::<(), hulemartob::Error>(())
     /// ```
+    ///
+    /// # Errors
+    ///
+    /// That of the first row that [`get`](Column::get) refuses.
     pub fn read_all(&self, values: &mut Vec<T>) -> Result<(), Error> {
         values.resize(self.len() as usize, T::default());
         self.read_chunks(values).inspect_err(|_| values.clear())
@@ -230,8 +263,7 @@ impl<T: Value, B: AsRef<[u8]>> Column<T, B> {
         Iter::new(self.raw())
     }
 
-    /// The rows of a range whose value lies in a range, ascending. The rows' end is cut to the window's. The first row of the range that
-    /// [`get`](Column::get) refuses decides, whatever the values are. Refused 13 and 14.
+    /// The rows of a range whose value lies in a range, ascending. The rows' end is cut to the window's.
     ///
     /// Signed numbers and dates go by their order, false comes before true. Floats go by the order of the stored numbers: -0.0 lies directly under +0.0, and
     /// NaNs lie beyond the infinity of their sign.
@@ -248,14 +280,17 @@ impl<T: Value, B: AsRef<[u8]>> Column<T, B> {
     /// assert_eq!(column.find(f64::NAN.., ..)?, [2]);
     /// # Ok::<(), hulemartob::Error>(())
     /// ```
+    ///
+    /// # Errors
+    ///
+    /// That of the first of these rows that [`get`](Column::get) refuses, whatever the values are.
     pub fn find(&self, values: impl RangeBounds<T>, rows: impl RangeBounds<u32>) -> Result<Vec<u32>, Error> {
         let mut found = Vec::new();
         find_stored(self.raw(), stored_range(&values), row_range(&rows), &mut found)?;
         Ok(found)
     }
 
-    /// A window in this column's window: its rows are those of a range, and count from its start. Refused 12 if the range ends behind the rows, and 13 if this
-    /// column was [made up](crate::raw) and its own window leaves it. A range that ends before it starts has no rows.
+    /// A window in this column's window: its rows are those of a range, and count from its start. A range that ends before it starts has no rows.
     ///
     /// Bytes that the column owns are cloned: share them as `Arc<[u8]>`, or take windows of [`borrowed`](Column::borrowed).
     ///
@@ -269,6 +304,11 @@ impl<T: Value, B: AsRef<[u8]>> Column<T, B> {
     /// assert_eq!(page.window(1..)?.to_vec()?, [20, 50]);
     /// # Ok::<(), hulemartob::Error>(())
     /// ```
+    ///
+    /// # Errors
+    ///
+    /// [`NoSuchRow`](Error::NoSuchRow) if the range ends behind the rows; then [`Unfit`](Error::Unfit) if this column was [made up](crate::raw) and its own
+    /// window leaves it.
     pub fn window(&self, rows: impl RangeBounds<u32>) -> Result<Column<T, B>, Error>
     where
         B: Clone,
@@ -344,6 +384,15 @@ impl<T: Value, B: AsRef<[u8]>> Column<T, B> {
     }
 
     /// How many bits each row has in the packed area; none for a Blockwise column, each of whose [blocks](Column::blocks) has a width of its own.
+    ///
+    /// ```
+    /// use hulemartob::{Codec, Column, encode};
+    ///
+    /// let column = Column::open(encode(&[10u64, 30, 20])?)?;
+    /// assert_eq!((column.codec(), column.gcd(), column.count()), (Codec::Bitpacked, 10, 2));
+    /// assert_eq!((column.width(), column.area()), (Some(2), 5..6));
+    /// # Ok::<(), hulemartob::Error>(())
+    /// ```
     #[must_use]
     pub fn width(&self) -> Option<u32> {
         match self.codec() {

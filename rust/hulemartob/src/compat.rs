@@ -39,10 +39,11 @@ use std::marker::PhantomData;
 use std::ops::{Deref, Range, RangeInclusive};
 use std::sync::Arc;
 
-use crate::column::{chunks, find_stored};
+use crate::column::{chunks, find_stored, read_run};
+use crate::raw::View;
 use crate::value::sealed::Stored;
 use crate::write::BLOCK;
-use crate::{Codec, Column, Date, Error, Value};
+use crate::{Codec, Column, Date, Error, Kind, Value};
 
 /// The names at their place in the crate.
 pub mod column_values {
@@ -154,11 +155,14 @@ pub trait MonotonicallyMappableToU64: 'static + PartialOrd + Debug + Copy + Send
     /// What a stored number reads as.
     fn from_u64(val: u64) -> Self;
 
-    /// A list as words to write stored numbers to, if values are stored as they are.
+    /// Reads the rows of a chunk, from `first` on, as many as there are outputs.
     #[doc(hidden)]
-    #[must_use]
-    fn stored_mut(_: &mut [Self]) -> Option<&mut [u64]> {
-        None
+    fn read_chunk(column: View<'_>, first: u32, output: &mut [Self]) -> Result<(), Error> {
+        let mut stored = [0; BLOCK as usize];
+        let stored = &mut stored[..output.len()];
+        column.run(first, stored)?;
+        output.iter_mut().zip(stored).for_each(|(value, &mut stored)| *value = Self::from_u64(stored));
+        Ok(())
     }
 
     /// The stored numbers of the values from `low` to `high`.
@@ -168,29 +172,12 @@ pub trait MonotonicallyMappableToU64: 'static + PartialOrd + Debug + Copy + Send
     }
 }
 
-impl MonotonicallyMappableToU64 for u64 {
-    const IS_IDENTITY: bool = true;
-
-    #[inline]
-    fn to_u64(self) -> u64 {
-        self
-    }
-
-    #[inline]
-    fn from_u64(val: u64) -> u64 {
-        val
-    }
-
-    #[inline]
-    fn stored_mut(values: &mut [u64]) -> Option<&mut [u64]> {
-        Some(values)
-    }
-}
-
-/// The other types of [`Value`], by their own calls.
+/// The types of [`Value`], by their own calls.
 macro_rules! mapped {
     ($($of:ty),*) => {$(
         impl MonotonicallyMappableToU64 for $of {
+            const IS_IDENTITY: bool = matches!(<$of>::KIND, Kind::U64);
+
             #[inline]
             fn to_u64(self) -> u64 {
                 self.to_stored()
@@ -201,6 +188,10 @@ macro_rules! mapped {
                 <$of>::from_stored(val)
             }
 
+            fn read_chunk(column: View<'_>, first: u32, output: &mut [$of]) -> Result<(), Error> {
+                read_run(column, first, output)
+            }
+
             fn stored_between(low: $of, high: $of) -> [u64; 2] {
                 <$of as Stored>::stored_between(low, high)
             }
@@ -208,7 +199,7 @@ macro_rules! mapped {
     )*};
 }
 
-mapped!(i64, Date, bool, f64);
+mapped!(u64, i64, Date, bool, f64);
 
 /// Row numbers are stored as they are. A stored number of more than 32 bits is cut to them, as in the crate.
 impl MonotonicallyMappableToU64 for RowId {
@@ -325,17 +316,9 @@ impl<T: MonotonicallyMappableToU64, B: AsRef<[u8]> + Send + Sync> ColumnValues<T
     fn get_range(&self, start: u64, output: &mut [T]) {
         let first = u32::try_from(start).unwrap_or_else(|_| refused(Error::NoSuchRow));
         let end = u32::try_from(start + output.len() as u64).unwrap_or_else(|_| refused(Error::NoSuchRow));
-        let view = self.0.raw();
-        let mut stored = [0; BLOCK as usize];
-        for rows in chunks(view.numbers, first..end) {
+        for rows in chunks(self.0.raw().numbers, first..end) {
             let output = &mut output[(rows.start - first) as usize..(rows.end - first) as usize];
-            if let Some(output) = T::stored_mut(output) {
-                view.run(rows.start, output).unwrap_or_else(|error| refused(error));
-                continue;
-            }
-            let stored = &mut stored[..output.len()];
-            view.run(rows.start, stored).unwrap_or_else(|error| refused(error));
-            output.iter_mut().zip(stored).for_each(|(value, &mut stored)| *value = T::from_u64(stored));
+            T::read_chunk(self.0.raw(), rows.start, output).unwrap_or_else(|error| refused(error));
         }
     }
 
@@ -361,7 +344,11 @@ impl<T: MonotonicallyMappableToU64, B: AsRef<[u8]> + Send + Sync> ColumnValues<T
     }
 }
 
-/// Writes values as a column, by that of the listed codecs whose size is least. Refusals 1 and 3 are errors, and so is what writing to `wrt` fails by.
+/// Writes values as a column, by that of the listed codecs whose size is least.
+///
+/// # Errors
+///
+/// The refusals of [`encode_with`](crate::encode_with), and what writing to `wrt` fails by.
 pub fn serialize_u64_based_column_values<T: MonotonicallyMappableToU64>(
     vals: &dyn Iterable<T>,
     codec_types: &[CodecType],
@@ -372,7 +359,11 @@ pub fn serialize_u64_based_column_values<T: MonotonicallyMappableToU64>(
     wrt.write_all(&crate::encode_with(&stored, &codecs)?)
 }
 
-/// Opens a column: [`Column::open`]. Refusals 5 to 10 are errors.
+/// Opens a column.
+///
+/// # Errors
+///
+/// The refusals of [`Column::open`].
 pub fn load_u64_based_column_values<T: MonotonicallyMappableToU64>(
     bytes: impl AsRef<[u8]> + Send + Sync + 'static,
 ) -> io::Result<Arc<dyn ColumnValues<T>>> {

@@ -69,7 +69,11 @@ pub(crate) fn error([number, value]: Refusal) -> Error {
     Error::from_numbers(number, value).expect("a refusal's number")
 }
 
-/// The statistics of the numbers that a list of words is stored as. Refused 1.
+/// The statistics of the numbers that a list of words is stored as.
+///
+/// # Errors
+///
+/// 1.
 pub fn stats(kind: Kind, words: &[u64]) -> Result<Stats, Error> {
     let (mut stats, mut refusal) = ([0; 4], [0; 2]);
     match kind {
@@ -82,7 +86,11 @@ pub fn stats(kind: Kind, words: &[u64]) -> Result<Stats, Error> {
 }
 
 /// Writes a list of words of a kind as a column into `out`, by that of the listed codecs whose size is least; the codecs are code bytes. Returns the
-/// column's length; the bytes behind it stay as they are. Refused 1 to 4; an output of no bytes is refused 4 with the length needed.
+/// column's length; the bytes behind it stay as they are.
+///
+/// # Errors
+///
+/// 1 to 4, in this order. An output of no bytes is refused 4 with the length needed.
 pub fn serialize(kind: Kind, words: &[u64], codecs: &[u8], out: &mut [u8]) -> Result<usize, Error> {
     let (values, many, codes, listed) = (words.as_ptr(), words.len(), codecs.as_ptr(), codecs.len());
     let (written, room, mut refusal) = (out.as_mut_ptr(), out.len(), [0; 2]);
@@ -96,8 +104,11 @@ pub fn serialize(kind: Kind, words: &[u64], codecs: &[u8], out: &mut [u8]) -> Re
 }
 
 /// Opens the column that `bytes` hold under an acceptance sheet: its numbers, and the offset of the first number that is spelled in more bytes than it need
-/// be, if one is. The blocks of a Blockwise column are then the first records of `table`. Refused 18, then 5 to 11, then 17; a table of no records is
-/// refused 11 with the blocks needed.
+/// be, if one is. The blocks of a Blockwise column are then the first records of `table`.
+///
+/// # Errors
+///
+/// 18, then 5 to 11, then 17. A table of no records is refused 11 with the blocks needed.
 pub fn open(sheet: u32, bytes: &[u8], table: &mut [Block]) -> Result<(Numbers, Option<usize>), Error> {
     let (mut numbers, mut refusal) = (Numbers::default(), [0; 2]);
     let (records, room) = (table.as_mut_ptr(), table.len());
@@ -116,8 +127,11 @@ pub(crate) fn check(kind: Kind, sheet: u32, bytes: &[u8], words: &[u64], table: 
 }
 
 impl Numbers {
-    /// The same with the window narrowed to `count` rows from its row `first` on. Refused 12 if these are not in the window, then 13 if the window leaves the
-    /// column, even for no rows.
+    /// The same with the window narrowed to `count` rows from its row `first` on.
+    ///
+    /// # Errors
+    ///
+    /// 12 if these are not in the window, then 13 if the window leaves the column, even for no rows.
     pub fn narrow(mut self, first: u32, count: u32) -> Result<Numbers, Error> {
         let mut refusal = [0; 2];
         // SAFETY: lent.
@@ -127,7 +141,11 @@ impl Numbers {
 }
 
 impl View<'_> {
-    /// The stored number of a row. Refused 12 to 14.
+    /// The stored number of a row.
+    ///
+    /// # Errors
+    ///
+    /// 12 to 14.
     #[inline]
     pub fn row(self, row: u32) -> Result<u64, Error> {
         let View { numbers, table, bytes } = self;
@@ -137,8 +155,12 @@ impl View<'_> {
         answer(refusal, value)
     }
 
-    /// Decodes the rows from `first` on, as many as `out` has entries, which then hold their stored numbers; a refusal leaves them as they were. Refused 12 if
-    /// the run leaves the rows, then as the first row that [`View::row`] refuses. A run of several chunks of 512 rows is gone over twice.
+    /// Decodes the rows from `first` on, as many as `out` has entries, which then hold their stored numbers; a refusal leaves them as they were. A run of
+    /// several chunks of 512 rows may be gone over twice.
+    ///
+    /// # Errors
+    ///
+    /// 12 if the run leaves the rows, then that of the first row that [`View::row`] refuses.
     #[inline]
     pub fn run(self, first: u32, out: &mut [u64]) -> Result<(), Error> {
         let View { numbers, table, bytes } = self;
@@ -149,7 +171,11 @@ impl View<'_> {
     }
 
     /// Looks up the rows of a range, its end cut to the window's rows, whose stored number lies from `low` to `high`. They are then the first entries of
-    /// `found`, ascending; returns how many. The first row of the range that [`View::row`] refuses decides (13, 14); then 15 with the rows found.
+    /// `found`, ascending; returns how many.
+    ///
+    /// # Errors
+    ///
+    /// That of the first row of the range that [`View::row`] refuses, then 15 with the rows found.
     #[inline]
     pub fn lookup(self, low: u64, high: u64, rows: Range<u32>, found: &mut [u32]) -> Result<usize, Error> {
         let View { numbers, table, bytes } = self;
@@ -160,7 +186,11 @@ impl View<'_> {
         answer(refusal, many)
     }
 
-    /// Reruns the lookups of a recording: [`Column::replay`](crate::Column::replay). Refused 13, 19.
+    /// Reruns the lookups of a recording: [`Column::replay`](crate::Column::replay).
+    ///
+    /// # Errors
+    ///
+    /// 13, then 19.
     pub fn replay(self, recording: &[u8]) -> Result<Replay, Error> {
         let View { numbers, table, bytes } = self;
         let (lookups, length, mut report, mut refusal) = (recording.as_ptr(), recording.len(), [0; 2], [0; 2]);
@@ -170,7 +200,11 @@ impl View<'_> {
         answer(refusal, Replay::from_numbers(report))
     }
 
-    /// The part that holds the byte at an offset. Refused 13 past the last byte.
+    /// The part that holds the byte at an offset.
+    ///
+    /// # Errors
+    ///
+    /// 13 past the last byte.
     pub fn part_at(self, offset: usize) -> Result<Part, Error> {
         let (mut part, mut refusal) = ([0; 5], [0; 2]);
         // SAFETY: lent.
@@ -178,7 +212,11 @@ impl View<'_> {
         answer(refusal, part).map(Part::from_numbers)
     }
 
-    /// The rows that own a bit of the byte at an offset, of the whole column, whatever its window; `0..0` where none does. Refused 13 past the last byte.
+    /// The rows that own a bit of the byte at an offset, of the whole column, whatever its window; `0..0` where none does.
+    ///
+    /// # Errors
+    ///
+    /// 13 past the last byte.
     pub fn rows_at(self, offset: usize) -> Result<Range<u32>, Error> {
         let View { numbers, table, bytes } = self;
         let (mut rows, mut refusal) = ([0; 2], [0; 2]);
@@ -189,7 +227,11 @@ impl View<'_> {
         answer(refusal, rows[0] as u32..rows[1] as u32)
     }
 
-    /// The first row from `from` on whose answers differ between this column and another, with both, or none. Refused 13 if numbers are no column.
+    /// The first row from `from` on whose answers differ between this column and another, with both, or none.
+    ///
+    /// # Errors
+    ///
+    /// 13 if numbers are no column.
     pub fn difference(self, other: View<'_>, from: u32) -> Result<Option<Difference>, Error> {
         let View { numbers, table, bytes } = self;
         let View { numbers: others, table: blocks, bytes: against } = other;
@@ -241,10 +283,13 @@ pub(crate) fn f64_bits_of(stored: u64) -> u64 {
     hulemartob_f64_bits_of(stored)
 }
 
-/// Makes words of stored numbers, in their place: the words of the values that they read as.
+/// Makes words of stored numbers, in their place: the words of the values that they read as. Plain numbers are that already.
+#[inline]
 pub(crate) fn values_as(kind: Kind, list: &mut [u64]) {
-    // SAFETY: lent.
-    unsafe { hulemartob_values_as(kind as u32, list.as_mut_ptr(), list.len()) }
+    if kind != Kind::U64 {
+        // SAFETY: lent.
+        unsafe { hulemartob_values_as(kind as u32, list.as_mut_ptr(), list.len()) }
+    }
 }
 
 /// The first and the last stored number of the signed numbers from low to high.

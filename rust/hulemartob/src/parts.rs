@@ -216,12 +216,16 @@ impl<T: Value, B: AsRef<[u8]>> Column<T, B> {
         Parts { view: self.raw(), next: 0 }
     }
 
-    /// The part that holds the byte at an offset. Refused 13 past the last byte.
+    /// The part that holds the byte at an offset.
+    ///
+    /// # Errors
+    ///
+    /// [`Unfit`](Error::Unfit) past the last byte.
     pub fn part_of_byte(&self, at: usize) -> Result<Part, Error> {
         self.raw().part_at(at)
     }
 
-    /// The rows that own a bit of the byte at an offset, of the whole column, whatever its window; `0..0` where none does. Refused 13 past the last byte.
+    /// The rows that own a bit of the byte at an offset, of the whole column, whatever its window; `0..0` where none does.
     ///
     /// ```
     /// use hulemartob::{Column, encode};
@@ -231,6 +235,10 @@ impl<T: Value, B: AsRef<[u8]>> Column<T, B> {
     /// assert_eq!(column.rows_of_byte(5)?, 0..3);
     /// # Ok::<(), hulemartob::Error>(())
     /// ```
+    ///
+    /// # Errors
+    ///
+    /// [`Unfit`](Error::Unfit) past the last byte.
     pub fn rows_of_byte(&self, at: usize) -> Result<Range<u32>, Error> {
         self.raw().rows_at(at)
     }

@@ -2,7 +2,7 @@
 //!
 //! Here a column is its twelve [`Numbers`], its block table and its bytes, three things that a caller may make up: what does not belong together is
 //! [refused 13](Error::Unfit). Kinds are known at run time, lists are lent as 64-bit words, codecs and sheets are bare numbers, and what is found goes into
-//! memory that the caller lends.
+//! memory that the caller lends. Refusals are told by their [numbers](Error::number).
 //!
 //! A list of values of a [`Kind`] is lent as words: plain numbers as they are, signed numbers and the nanoseconds of dates by their two's complement bits,
 //! bools as 0 or any other word, floats by their bits.
@@ -19,6 +19,8 @@
 //! assert_eq!(view.lookup(0, u64::MAX, 0..3, &mut found), Err(Error::ListShort { found: 3 }));
 //! # Ok::<(), Error>(())
 //! ```
+
+use std::fmt;
 
 use crate::{Codec, Column, Error, Kind, Mismatch, ffi, max_encoded_len};
 
@@ -84,7 +86,7 @@ impl From<Numbers> for [u64; 12] {
 }
 
 /// A column in its three parts. [`Column::raw`] gives those of an opened one. Rows count from the window's start.
-#[derive(Clone, Copy, Debug)]
+#[derive(Clone, Copy)]
 pub struct View<'a> {
     /// The twelve numbers.
     pub numbers: &'a Numbers,
@@ -94,9 +96,14 @@ pub struct View<'a> {
     pub bytes: &'a [u8],
 }
 
+impl fmt::Debug for View<'_> {
+    fn fmt(&self, f: &mut fmt::Formatter<'_>) -> fmt::Result {
+        write!(f, "View {{ {:?}, {} blocks, {} bytes }}", self.numbers, self.table.len(), self.bytes.len())
+    }
+}
+
 impl<B: AsRef<[u8]>> Column<u64, B> {
-    /// A column of any numbers and any table. Refused 13 if the numbers are no column: a codec above 2, rows or a window of 2^32 or more, a Linear width
-    /// above 255. What else does not belong together is refused 13 as it is read.
+    /// A column of any numbers and any table. What does not belong together is refused as it is read.
     ///
     /// ```
     /// use hulemartob::{Column, Error, encode};
@@ -108,6 +115,10 @@ impl<B: AsRef<[u8]>> Column<u64, B> {
     /// assert_eq!(column.get(0), Err(Error::Unfit));
     /// # Ok::<(), Error>(())
     /// ```
+    ///
+    /// # Errors
+    ///
+    /// [`Unfit`](Error::Unfit) if the numbers are no column: a codec above 2, rows or a window of 2^32 or more, a Linear width above 255.
     pub fn from_raw(bytes: B, numbers: Numbers, table: impl AsRef<[Block]>) -> Result<Column<u64, B>, Error> {
         // A lookup over no rows is refused only where the numbers are no column.
         View { numbers: &numbers, table: &[], bytes: &[] }.lookup(0, 0, 0..0, &mut [])?;
@@ -125,6 +136,10 @@ impl<B: AsRef<[u8]>> Column<u64, B> {
 /// assert_eq!(raw::encode(kind, &words, &Codec::ALL)?, encode(&[20.5, -0.0])?);
 /// # Ok::<(), Box<dyn std::error::Error>>(())
 /// ```
+///
+/// # Errors
+///
+/// 1 and 3.
 pub fn encode(kind: Kind, words: &[u64], codecs: &[Codec]) -> Result<Vec<u8>, Error> {
     // Too many values are refused whatever the room is, so none is made for them.
     let room = if u32::try_from(words.len()).is_ok() { max_encoded_len(words.len()) } else { 0 };
@@ -141,6 +156,10 @@ pub(crate) fn code_bytes(codecs: &[Codec]) -> Vec<u8> {
 }
 
 /// Opens the column that `bytes` hold under an acceptance sheet, and checks it against a list of words of a kind: [`check`](crate::check()).
+///
+/// # Errors
+///
+/// The first reason why the column does not hold the list; 18 is one of opening.
 pub fn check(kind: Kind, sheet: u32, bytes: &[u8], words: &[u64]) -> Result<(), Mismatch> {
     let verdict = |table: &mut [Block]| Mismatch::from_numbers(ffi::check(kind, sheet, bytes, words, table));
     match verdict(&mut []) {

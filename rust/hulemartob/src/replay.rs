@@ -45,8 +45,7 @@ impl Replay {
 }
 
 impl<T: Value, B: AsRef<[u8]>> Column<T, B> {
-    /// Reruns recorded lookups one after another, up to the first whose rows are not the recorded ones. A lookup that a row refuses differs. Refused 19 before
-    /// any lookup if the bytes are no recording.
+    /// Reruns recorded lookups one after another, up to the first whose rows are not the recorded ones. A lookup that a row refuses differs.
     ///
     /// ```
     /// use hulemartob::{Column, RecordingBuilder, encode};
@@ -59,6 +58,10 @@ impl<T: Value, B: AsRef<[u8]>> Column<T, B> {
     /// assert_eq!((replay.differing, replay.run), (Some(1), 2));
     /// # Ok::<(), hulemartob::Error>(())
     /// ```
+    ///
+    /// # Errors
+    ///
+    /// [`BadRecording`](Error::BadRecording), before any lookup, if the bytes are no recording.
     pub fn replay(&self, recording: &[u8]) -> Result<Replay, Error> {
         self.raw().replay(recording)
     }
@@ -102,8 +105,12 @@ impl RecordingBuilder {
         self.records.is_empty()
     }
 
-    /// Records a lookup of stored numbers with the rows that it found. Refused 19, and not recorded, if the recording would get too long for the 32 bits of its
-    /// places and offsets: from 134,217,727 records or 2^32 row numbers on.
+    /// Records a lookup of stored numbers with the rows that it found.
+    ///
+    /// # Errors
+    ///
+    /// [`BadRecording`](Error::BadRecording), and nothing is recorded, if the recording would get too long for the 32 bits of its places and offsets: from
+    /// 134,217,727 records or 2^32 row numbers on.
     pub fn push(&mut self, values: RangeInclusive<u64>, rows: Range<u32>, found: &[u32]) -> Result<&mut RecordingBuilder, Error> {
         let place = self.numbers.len() / NUMBER;
         // Where the row numbers begin and how many they are, then.
@@ -121,7 +128,11 @@ impl RecordingBuilder {
         Ok(self)
     }
 
-    /// Looks rows up as [`Column::find`] does, and records what is found. A refused lookup is not recorded. Refused 13, 14 and 19.
+    /// Looks rows up as [`Column::find`] does, and records what is found.
+    ///
+    /// # Errors
+    ///
+    /// Those of [`Column::find`] and of [`push`](RecordingBuilder::push); then nothing is recorded.
     pub fn record<T: Value, B: AsRef<[u8]>>(
         &mut self,
         column: &Column<T, B>,
@@ -155,7 +166,11 @@ pub struct Recording<'a> {
 }
 
 impl<'a> Recording<'a> {
-    /// The recording that some bytes hold. Refused 19 where they are none, which is asked of the library: by a replay over a column of no rows.
+    /// The recording that some bytes hold.
+    ///
+    /// # Errors
+    ///
+    /// [`BadRecording`](Error::BadRecording) where they hold none. The library is asked, by a replay over a column of no rows.
     pub fn read(bytes: &'a [u8]) -> Result<Recording<'a>, Error> {
         View { numbers: &Numbers { gcd: 1, ..Numbers::default() }, table: &[], bytes: &[] }.replay(bytes)?;
         let mut header = bytes.chunks_exact(NUMBER).map(|n| number(n) as usize);
@@ -194,6 +209,7 @@ impl<'a> Recording<'a> {
 
     /// All records in turn.
     #[must_use]
+    #[allow(clippy::missing_panics_doc, reason = "each number asked for is one of a record")]
     pub fn iter(&self) -> impl ExactSizeIterator<Item = Recorded> + use<'a> {
         let recording = *self;
         (0..recording.len()).map(move |k| recording.get(k).expect("a record below their number"))

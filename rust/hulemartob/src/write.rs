@@ -21,13 +21,17 @@ impl Stats {
     }
 }
 
-/// The statistics of a list of values. Refused 1.
+/// The statistics of a list of values.
 ///
 /// ```
 /// let stats = hulemartob::stats(&[-10i64, 10, 0])?;
 /// assert_eq!((stats.minimum, stats.maximum, stats.gcd), ((1 << 63) - 10, (1 << 63) + 10, 10));
 /// # Ok::<(), hulemartob::Error>(())
 /// ```
+///
+/// # Errors
+///
+/// [`TooManyValues`](Error::TooManyValues).
 pub fn stats<T: Value>(values: &[T]) -> Result<Stats, Error> {
     raw::stats(T::KIND, &T::words(values))
 }
@@ -45,7 +49,7 @@ pub const fn max_encoded_len(rows: usize) -> usize {
     rows.saturating_mul(8).saturating_add(21 * blocks).saturating_add(45)
 }
 
-/// Writes a list of values as a column, by the codec whose size is least, and returns its bytes. Refused 1.
+/// Writes a list of values as a column, by the codec whose size is least, and returns its bytes.
 ///
 /// ```
 /// use hulemartob::{Column, encode};
@@ -56,11 +60,15 @@ pub const fn max_encoded_len(rows: usize) -> usize {
 /// assert!(column.get(1)?.is_sign_negative());
 /// # Ok::<(), hulemartob::Error>(())
 /// ```
+///
+/// # Errors
+///
+/// [`TooManyValues`](Error::TooManyValues).
 pub fn encode<T: Value>(values: &[T]) -> Result<Vec<u8>, Error> {
     encode_with(values, &Codec::ALL)
 }
 
-/// Writes a list of values as a column, by that of the listed codecs whose size is least, the earliest of equals, and returns its bytes. Refused 1 and 3.
+/// Writes a list of values as a column, by that of the listed codecs whose size is least, the earliest of equals, and returns its bytes.
 ///
 /// ```
 /// use hulemartob::{Codec, Error, encode_with};
@@ -71,13 +79,16 @@ pub fn encode<T: Value>(values: &[T]) -> Result<Vec<u8>, Error> {
 /// assert_eq!(encode_with(&[10u64, 30, 20], &[Codec::Linear]), Err(Error::NoCodecApplies));
 /// # Ok::<(), Error>(())
 /// ```
+///
+/// # Errors
+///
+/// [`TooManyValues`](Error::TooManyValues), [`NoCodecApplies`](Error::NoCodecApplies).
 pub fn encode_with<T: Value>(values: &[T], codecs: &[Codec]) -> Result<Vec<u8>, Error> {
     raw::encode(T::KIND, &T::words(values), codecs)
 }
 
-/// Writes a list of values as a column into `out` and returns the column's length; the bytes behind it stay as they are. Refused 1, 3, and 4 with the length
-/// needed, which leaves all of `out` as it was; [`max_encoded_len`] is always enough. Bools are first copied to words; the other kinds are lent as they lie
-/// in memory.
+/// Writes a list of values as a column into `out` and returns the column's length; the bytes behind it stay as they are. [`max_encoded_len`] bytes are always
+/// enough. Bools are first copied to words; the other kinds are lent as they lie in memory.
 ///
 /// ```
 /// use hulemartob::{Codec, Error, encode_into};
@@ -87,11 +98,15 @@ pub fn encode_with<T: Value>(values: &[T], codecs: &[Codec]) -> Result<Vec<u8>, 
 /// assert_eq!(encode_into(&[10u64, 30, 20], &Codec::ALL, &mut out), Ok(6));
 /// assert_eq!(out, [0x00, 0x8A, 0x8A, 0x82, 0x83, 0x18, 0xFF, 0xFF]);
 /// ```
+///
+/// # Errors
+///
+/// [`TooManyValues`](Error::TooManyValues), [`NoCodecApplies`](Error::NoCodecApplies), [`OutputShort`](Error::OutputShort). They leave all of `out` as it was.
 pub fn encode_into<T: Value>(values: &[T], codecs: &[Codec], out: &mut [u8]) -> Result<usize, Error> {
     raw::serialize(T::KIND, &T::words(values), &raw::code_bytes(codecs), out)
 }
 
-/// How long the column is that [`encode_with`] would write. Refused 1 and 3.
+/// How long the column is that [`encode_with`] would write.
 ///
 /// ```
 /// use hulemartob::{Codec, encoded_len};
@@ -99,6 +114,10 @@ pub fn encode_into<T: Value>(values: &[T], codecs: &[Codec], out: &mut [u8]) -> 
 /// let values: Vec<u64> = (0..600).map(|i| 1000 + 7 * i).collect();
 /// assert_eq!(Codec::ALL.map(|codec| encoded_len(&values, &[codec])), [Ok(758), Ok(16), Ok(27)]);
 /// ```
+///
+/// # Errors
+///
+/// [`TooManyValues`](Error::TooManyValues), [`NoCodecApplies`](Error::NoCodecApplies).
 pub fn encoded_len<T: Value>(values: &[T], codecs: &[Codec]) -> Result<usize, Error> {
     match encode_into(values, codecs, &mut []) {
         Err(Error::OutputShort { needed }) => Ok(needed),

@@ -126,6 +126,7 @@ fn debugged_in_a_line() {
     let column = Column::open(&BLOCKWISE).unwrap().window(1..).unwrap();
     assert_eq!(format!("{column:?}"), "Column<u64> { Blockwise, rows 1..3 of 3, 17 bytes }");
     assert_eq!(format!("{:?}", column.iter()), "Iter<u64> { rows 0..2 }");
+    assert!(format!("{:?}", column.raw()).ends_with(" window_rows: 2 }, 1 blocks, 17 bytes }"));
 }
 
 #[test]

@@ -62,3 +62,10 @@ fn codes() {
     }
     assert_eq!(encode(&[1u64]).unwrap()[0], u8::from(Codec::Bitpacked));
 }
+
+/// The crate and the C header are of one version.
+#[test]
+fn one_version() {
+    let header = include_str!("../../../include/hulemartob.h");
+    assert!(header.contains(concat!("#define HULEMARTOB_VERSION \"", env!("CARGO_PKG_VERSION"), "\"\n")));
+}

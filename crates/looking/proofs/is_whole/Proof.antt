@@ -1,16 +1,16 @@
 -- `looking::is_whole` meets its contract.
 -- Assumes nothing.
 use Prim.Native.Nat.{ℕ, _+_, _-_, _^_, _≤_, _<_}
-use mathlib.Core.Path.{_≡_, _∙_}
+use mathlib.Core.Path.{_≡_, sym, subst, _∙_}
 use mathlib.Core.Bool.{true}
 use native.Mathlib.Omega.{arith}
 use denote.Ref.{now}
 use Rattle.format.specs.Reading.{columnRow, fits}
 use Rattle.format.specs.Refusals.{rowMeaning}
 use Rattle.format.proofs.Outcomes.{told}
-use Rattle.reading.proofs.Fitting.{fitting, fitting-window}
+use Rattle.reading.proofs.Fitting.{fitting, fitting-window, chunk-fits}
 use Rattle.reading.proofs.Moving.{not-moved}
-use Rattle.looking.proofs.Sures.{never, told-fits, looked}
+use Rattle.looking.proofs.Sures.{never, sure-stands, told-fits, looked}
 use borrow.Author.Needs.{needs}
 use Rattle.looking.proofs.is_whole.Statement.{statement}
 use Rattle.looking.proofs.is_whole.Tie as tie
@@ -57,17 +57,34 @@ is-sure-requires c κs =
     let s = entry e in
     (fitting _ _ _ _ _ (fit e) .bounds, s .pre .some, omega (arith, at-is c, window e, s .pre .inside, few s), omega (arith, at-is c, s .pre .one))
 
+returns : tie.Need-returns
+returns c =
+    let k = c .before .before in
+    let s = entry (k .before) in
+    λ e. looked (s .args .column) (s .args .blocks) (s .args .block) (now (s .args .bytes)) (s .args .first) (s .args .size) _ (s .pre) (told rowMeaning (k .before .before .before .row-in .ensures) (k .before .enum-told .given .1)) (sure-stands _ (rw (at-is k) at (c .before .is-sure .ensures (c .if1 .taken))))
+
+is-within-requires : tie.Need-is-within-requires
+is-within-requires c κs =
+    let k = c .before .before in
+    let e = k .before in
+    let s = entry e in
+    let same = at-is k in (
+      record { some = s .pre .some; inside = omega (arith, same, s .pre .inside, window e); one = omega (arith, same, s .pre .one) },
+      fitting _ _ _ _ _ (subst (λ (q : ℕ). fits (s .args .column) (s .args .blocks) (s .args .block) (now (s .args .bytes)) q ≡ true) (sym same)
+          (chunk-fits _ _ _ _ _ _ (s .pre) (fit e) (s .args .first) (omega arith) (omega (arith, s .pre .some)))),
+    )
+
 enum-told-2 : tie.Need-enum-told-2
 enum-told-2 c = search needs
 
-returns : tie.Need-returns
-returns c =
-    let k = c .before in
-    let s = entry (k .before) in
-    λ e. looked (s .args .column) (s .args .blocks) (s .args .block) (now (s .args .bytes)) (s .args .first) (s .args .size) _ (s .pre) (told rowMeaning (k .before .before .before .row-in .ensures) (k .before .enum-told .given .1)) (rw (at-is k) at (c .is-sure .ensures e))
-
 returns-2 : tie.Need-returns-2
-returns-2 c = λ e. never e
+returns-2 c =
+    let k = c .before .before .before in
+    let s = entry (k .before) in
+    λ e. looked (s .args .column) (s .args .blocks) (s .args .block) (now (s .args .bytes)) (s .args .first) (s .args .size) _ (s .pre) (told rowMeaning (k .before .before .before .row-in .ensures) (k .before .enum-told .given .1)) (rw (at-is k) at (c .is-within .ensures e))
+
+returns-3 : tie.Need-returns-3
+returns-3 c = λ e. never e
 
 pub is-whole-spec : {M : Type 1} → statement M
 is-whole-spec =
@@ -79,6 +96,8 @@ is-whole-spec =
     enum-told
     column-row-requires
     is-sure-requires
-    enum-told-2
     returns
-    returns-2)
+    is-within-requires
+    enum-told-2
+    returns-2
+    returns-3)

@@ -395,8 +395,11 @@ fn main() -> ExitCode {
         many / 3,
         lists::KINDS
     );
-    if !bounds_hold() {
+    let named_build = bounds_hold();
+    if !named_build {
         println!("log2 of an f32 is another here than in the table of bounds (docs/DIFFERENCES.md): the choice of a codec may differ");
     }
-    if tally.report() { ExitCode::SUCCESS } else { ExitCode::FAILURE }
+    // Equal choice is claimed for one build. Elsewhere nothing is shown of it, unless that is known.
+    let told = std::env::var_os("ANOTHER_BUILD").is_some();
+    if tally.report() && (named_build || told) { ExitCode::SUCCESS } else { ExitCode::FAILURE }
 }

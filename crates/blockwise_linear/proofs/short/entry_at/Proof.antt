@@ -6,7 +6,6 @@ use lib.ListN.{getD}
 use borrow.Author.Tests.{not-false}
 use denote.Ref.{now}
 use Rattle.format.specs.Opening.{readFields}
-use Rattle.format.proofs.Widths.{legal-narrow}
 use Rattle.format.proofs.LineFields.{width-from}
 use borrow.Author.Needs.{needs}
 use Rattle.blockwise_linear.proofs.short.entry_at.Statement.{statement}
@@ -30,6 +29,9 @@ returns-3 c told = let never : _≡_ {A = Bool} false true = told in cc
 shared-slice-read-bits : tie.Need-shared-slice-read-bits
 shared-slice-read-bits c = search needs
 
+lawful-requires : tie.Need-lawful-requires
+lawful-requires c κs = search needs
+
 returns-4 : tie.Need-returns-4
 returns-4 c told = let never : _≡_ {A = Bool} false true = told in cc
 
@@ -39,7 +41,7 @@ add-t8 c = search needs
 returns-5 : tie.Need-returns-5
 unfolding readFields
 returns-5 c told =
-    let inside = c .before .before in
+    let inside = c .before .before .before in
     let second = inside .before in
     let intercept = second .before .before in
     let first = intercept .before in
@@ -50,7 +52,7 @@ returns-5 c told =
     rw (
       slope .number-at .ensures (not-false _ (first .if1 .left)),
       intercept .number-at2 .ensures (not-false _ (second .if2 .left)),
-      width-from bytes place bits (record { within = inside .if3 .left; byte = refl; lawful = legal-narrow bits (c .if4 .left) }),
+      width-from bytes place bits (record { within = inside .if3 .left; byte = refl; lawful = c .before .lawful .ensures (not-false _ (c .if4 .left)) }),
     )
 
 pub entry-at-spec : {M : Type 1} → statement M
@@ -63,6 +65,7 @@ entry-at-spec =
     returns-2
     returns-3
     shared-slice-read-bits
+    lawful-requires
     returns-4
     add-t8
     returns-5)

@@ -14,7 +14,7 @@ use Rattle.records.proofs.Types as Ty
 use Rattle.plain.specs.Explaining.{rowsTold, Tells}
 use Rattle.plain.specs.Numbers.{after, columnFrom, madeMeaning, columnOf}
 use Rattle.column_c.proofs.Types as T′
-use Rattle.column_c.proofs.Joining.{joined}
+use Rattle.plain_calls.proofs.Joining.{joined}
 use Rattle.plain.proofs.column_from as cf
 use Rattle.plain.proofs.column_from.Symbol as cf-def
 use Rattle.plain.proofs.column_from.Symbol.{name as #plain·column-from}
