@@ -1,0 +1,34 @@
+//! One command for everyday work on columns: judging whole folders without golden files, listing, explaining, comparing, writing.
+//!
+//! Every answer about a column is the library's, which is proved. What is decided here is what is said of it, and in which words. The modules below
+//! [`unproved`] are the exception: they read bytes of the format themselves, for what the library has no call yet. They only add to what is shown.
+
+mod bless;
+mod cli;
+mod commands;
+mod console;
+mod dates;
+mod page;
+mod place;
+mod refusals;
+mod scalar;
+mod sources;
+mod unproved;
+mod values;
+
+use std::process::ExitCode;
+
+use clap::Parser;
+
+fn main() -> ExitCode {
+    let cli = cli::Cli::parse();
+    console::choose_color(cli.color);
+    match commands::run(cli.command) {
+        Ok(status) => status.into(),
+        Err(error) if console::is_broken_pipe(&error) => console::Status::BrokenPipe.into(),
+        Err(error) => {
+            console::complain(&format!("{error:#}"));
+            console::Status::Trouble.into()
+        }
+    }
+}
