@@ -47,7 +47,7 @@
  * The archive is x86-64 code for Linux. It leaves memcpy and memset undefined, which every C library has, and needs nothing else.
  *
  * What every function does: it ends, and whatever its arguments hold it fails only by a refusal. `error` is then the refusal's number and value, and
- * nothing else that was lent is changed. Otherwise `error` is 0 and 0. All of that is proved, and so is every answer: crates/column_c states it as an
+ * nothing else that was lent is changed. Otherwise `error` is 0 and 0. All of that is proved, and so is every answer: crates/hulemartob states it as an
  * equation with the definitions of the format. The inline functions of the two headers are C, and not proved.
  *
  * What every caller owes, since no function can test it:

@@ -12,7 +12,7 @@ use std::path::{Path, PathBuf};
 use std::process::{Command, ExitCode, Stdio};
 
 /// The archive's name without `lib` and `.a`, which is that of the crate `rt staticlib` makes it of.
-const ARCHIVE: &str = "column_c";
+const ARCHIVE: &str = "hulemartob";
 
 /// Two lines: what is the matter, and what to do.
 type Trouble = [String; 2];

@@ -2,8 +2,8 @@
 """Checking a column against a list of values, by the model alone.
 
     tools/answers/checks.py SHEET COLUMN VALUES                        what `./run check` has to print of a sheet and two files
-    tools/answers/checks.py cases > crates/checks_cases/data/cases     the cases that `checks_cases` reads
-    tools/answers/checks.py stdout > crates/checks_cases/stdout        what it has to print
+    tools/answers/checks.py cases > crates/test_check/data/cases     the cases that `test_check` reads
+    tools/answers/checks.py stdout > crates/test_check/stdout        what it has to print
     tools/answers/checks.py example DIR                                a column and its values, as files
     tools/answers/checks.py                                            asks the cases in crates/format/proofs/CheckCases.antt again
 
@@ -156,7 +156,7 @@ def words(*parts):
 
 
 def file():
-    """The cases as `checks_cases` reads them: four lengths, then title, sheet, column and values."""
+    """The cases as `test_check` reads them: four lengths, then title, sheet, column and values."""
     parts = [(title.encode() + b"\n", *rest) for title, *rest in program_cases()]
     return b"".join(words(*part) + b"".join(part) for part in parts)
 

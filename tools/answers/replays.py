@@ -1,9 +1,9 @@
 #!/usr/bin/env python3
-"""Replaying recorded lookups, by the model: what a recording is, what a replay reports, and the cases of `replay_cases`.
+"""Replaying recorded lookups, by the model: what a recording is, what a replay reports, and the cases of `test_replay`.
 
     tools/answers/replays.py COLUMN RECORDING                        what `replay` has to print of two files
-    tools/answers/replays.py cases > crates/replay_cases/data/cases      the cases that it reads
-    tools/answers/replays.py stdout > crates/replay_cases/stdout         what it has to print
+    tools/answers/replays.py cases > crates/test_replay/data/cases      the cases that it reads
+    tools/answers/replays.py stdout > crates/test_replay/stdout         what it has to print
     tools/answers/replays.py example DIR                             a column and a recording that agrees, as files
 """
 
@@ -160,7 +160,7 @@ def cases():
 
 
 def file():
-    """The cases as `replay_cases` reads them: three lengths, then title, column and recording."""
+    """The cases as `test_replay` reads them: three lengths, then title, column and recording."""
     parts = []
     for _, items in cases():
         for title, column, recording in items:

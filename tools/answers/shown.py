@@ -1,10 +1,10 @@
 #!/usr/bin/env python3
-"""The cases of `compare_cases` and `listing_cases`: the files that they read, and what they have to print, by the model alone.
+"""The cases of `test_compare` and `test_list`: the files that they read, and what they have to print, by the model alone.
 
-    tools/answers/shown.py compare cases > crates/compare_cases/data/cases
-    tools/answers/shown.py compare stdout > crates/compare_cases/stdout
-    tools/answers/shown.py listing cases > crates/listing_cases/data/cases
-    tools/answers/shown.py listing stdout > crates/listing_cases/stdout
+    tools/answers/shown.py compare cases > crates/test_compare/data/cases
+    tools/answers/shown.py compare stdout > crates/test_compare/stdout
+    tools/answers/shown.py listing cases > crates/test_list/data/cases
+    tools/answers/shown.py listing stdout > crates/test_list/stdout
 """
 
 import sys

@@ -1,8 +1,8 @@
 #!/usr/bin/env python3
-"""The lists among the stored answers, as the cases of `oracle_cases`.
+"""The lists among the stored answers, as the cases of `test_oracle`.
 
-    tools/answers/written.py cases > crates/oracle_cases/data/cases      the cases that it reads
-    tools/answers/written.py stdout > crates/oracle_cases/stdout         what it has to print
+    tools/answers/written.py cases > crates/test_oracle/data/cases      the cases that it reads
+    tools/answers/written.py stdout > crates/test_oracle/stdout         what it has to print
 
 A case is a list, its codecs and its column: the oracle's, but for values of another kind than plain numbers and for refusals, which are the model's. All short lists are taken, and of the long
 ones, which take most of the bytes, one in six.

@@ -1,5 +1,5 @@
 // Writing a column of numbers of 64 bits: the statistics of values, and their bytes. No argument makes a call fail but by a numbered refusal, and each contract
-// says what a call answers and what every lent entry holds afterwards. Opening stands in `loading`.
+// says what a call answers and what every lent entry holds afterwards. Opening stands in `open_column`.
 ghost use mathlib.Core.Path.{_≡_};
 ghost use lib.ListN.{length};
 ghost use Rattle.format.specs.Refusals.{statedMeaning};
@@ -11,8 +11,8 @@ use format::Kind;
 use format::Refusal;
 use format::Stated;
 use format::Written;
-use writing::choice::Choice;
-use writing::choice::Place;
+use write_codec::choice::Choice;
+use write_codec::choice::Place;
 
 // The statistics of some values.
 pub fn column_stats(values: &[u64]) -> Stated
@@ -46,12 +46,12 @@ pub fn serialize_as(kind: Kind, values: &[u64], codecs: &[u8], out: &mut [u8]) -
     if 0xffff_ffff < values.len() {
         return Written::Refused(Refusal::TooManyValues);
     }
-    if let Place::At(place) = writing::choice::unknown(codecs) {
+    if let Place::At(place) = write_codec::choice::unknown(codecs) {
         return Written::Refused(Refusal::UnknownCodec { place });
     }
     let stats = stats_collector::collect(kind, values);
-    match writing::choice::codec_for(kind, values, stats, codecs) {
+    match write_codec::choice::codec_for(kind, values, stats, codecs) {
         Choice::Nothing => Written::Refused(Refusal::NoCodecApplies),
-        Choice::By(codec) => writing::writer::put(kind, values, stats, codec, out),
+        Choice::By(codec) => write_codec::writer::put(kind, values, stats, codec, out),
     }
 }

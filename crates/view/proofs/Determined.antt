@@ -4,7 +4,7 @@
 use Prim.Native.Nat.{ℕ}
 use mathlib.Core.Path.{_≡_, sym, _∙_}
 use mathlib.Core.List.{List, []}
-use Rattle.walking.proofs.Walk.{RefT}
+use Rattle.proof_walk.proofs.Walk.{RefT}
 use Rattle.format.specs.declared.Column.{Column}
 use Rattle.format.specs.declared.Opened.{Opened}
 use Rattle.format.specs.declared.RowRead.{RowRead}

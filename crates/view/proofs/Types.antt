@@ -8,7 +8,7 @@ use denote.Laws.{Is}
 use denote.Ref.{NamedLft}
 use denote.Struct.Declared.{Declared}
 use denote.Struct.Laws as LL
-use Rattle.walking.proofs.Data.{Data, struct, enum, Fits}
+use Rattle.proof_walk.proofs.Data.{Data, struct, enum, Fits}
 use Rattle.view.specs.declared.View.{View}
 use Rattle.format.proofs.Column as C
 use Rattle.format.proofs.Column.Laws as C′

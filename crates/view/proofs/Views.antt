@@ -30,9 +30,9 @@ use Rattle.format.specs.Reading.{rowIn, fits, rowFits, placeIn, packedOf, value
 use Rattle.format.specs.Viewing.{viewBlockwise, viewBody, viewed, viewedUnder}
 use Rattle.format.proofs.Outcomes.{not-value, value-same, by-step, by-demand}
 use Rattle.format.proofs.Openings.{bitpackedOf, linearOf, blockwiseOf}
-use Rattle.sheets.specs.Faults.{AllWithin}
-use Rattle.sheets.proofs.SheetNumbers.{accepted}
-use Rattle.loading.proofs.Opens.{opened-within}
+use Rattle.open_sheet.specs.Faults.{AllWithin}
+use Rattle.open_sheet.proofs.SheetNumbers.{accepted}
+use Rattle.open_column.proofs.Opens.{opened-within}
 use Rattle.view.specs.Held.{unlessBlockwise, forView}
 
 -- ---- refusals that are not 11

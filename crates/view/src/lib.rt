@@ -62,8 +62,8 @@ fn column_of(answer: Opened) -> Column
 pub fn open_plain(sheet: u32, bytes: &[u8]) -> Opened
     ensures { λ r. ⌜ openedMeaning r ≡ columnIn (viewedUnder sheet (now (bytes .entry))) ⌝ }
 {
-    let answer = for_view(loading::open_plain(bytes, 0));
-    sheets::under(sheet, answer, bytes)
+    let answer = for_view(open_column::open_plain(bytes, 0));
+    open_sheet::under(sheet, answer, bytes)
 }
 
 // The value of a row of such a column, with its bytes: as with an empty table.
@@ -79,7 +79,7 @@ pub fn row_of(column: Column, bytes: &[u8], row: u32) -> RowRead
         bits: 0,
         start: 0,
     };
-    reading::reader::row_in(column, 0, none, bytes, WindowRow(row))
+    read_row::reader::row_in(column, 0, none, bytes, WindowRow(row))
 }
 
 // A column's bytes and its opened numbers.

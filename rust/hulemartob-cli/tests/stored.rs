@@ -87,18 +87,18 @@ fn words(line: &str) -> Option<Vec<String>> {
 
 #[test]
 fn listed() {
-    hold("listing_cases", 2, 2, |_, _| words("list a"));
+    hold("test_list", 2, 2, |_, _| words("list a"));
 }
 
 /// Those that look through a window at less than all rows are left out.
 #[test]
 fn compared() {
-    hold("compare_cases", 7, 3, |head, _| words("compare a b").filter(|_| head[3..] == [0, u32::MAX, 0, u32::MAX]));
+    hold("test_compare", 7, 3, |head, _| words("compare a b").filter(|_| head[3..] == [0, u32::MAX, 0, u32::MAX]));
 }
 
 #[test]
 fn checked() {
-    hold("checks_cases", 4, 4, |_, pieces| match &pieces[0][..] {
+    hold("test_check", 4, 4, |_, pieces| match &pieces[0][..] {
         b"1" => words("check --sheet 1 b c"),
         b"2" => words("check --sheet 2 b c"),
         // No sheet: the command does not take it.
@@ -108,5 +108,5 @@ fn checked() {
 
 #[test]
 fn replayed() {
-    hold("replay_cases", 3, 3, |_, _| words("replay a b"));
+    hold("test_replay", 3, 3, |_, _| words("replay a b"));
 }

@@ -1,12 +1,12 @@
 -- `view::open` meets its contract: a walk of its MIR, by hand. `open_plain` and `column_of` are called, a view is made of the bytes and the column, and the answer of what was told and the view.
 -- Assumes nothing.
-use Rattle.walking.proofs.Walk.{_≡_, refl, _∙_, ap, ℕ, List, [], _∷_, URA, named, erased, w32, SProp, emp, id⊢, Memory, Routine, Heap, WpFn, Tables, Atoms, Fun, factI, givenOf, tables, tablesOf}
-use Rattle.walking.proofs.Walk.{Given, ‵, _$_, !, move, use1, fjoin, agg, look, init, stop, from, load, and-then, no-more, assigns, returns, fmOf, u8, RefT, slice-vals, shr-slice-tells, uint-vals, uint-tells, nothing, Contract, Triple, tripleOf, entered, cited, Lft, NamedLft, namedLft, ownAt, own-shut, ShrSlice, Is}
+use Rattle.proof_walk.proofs.Walk.{_≡_, refl, _∙_, ap, ℕ, List, [], _∷_, URA, named, erased, w32, SProp, emp, id⊢, Memory, Routine, Heap, WpFn, Tables, Atoms, Fun, factI, givenOf, tables, tablesOf}
+use Rattle.proof_walk.proofs.Walk.{Given, ‵, _$_, !, move, use1, fjoin, agg, look, init, stop, from, load, and-then, no-more, assigns, returns, fmOf, u8, RefT, slice-vals, shr-slice-tells, uint-vals, uint-tells, nothing, Contract, Triple, tripleOf, entered, cited, Lft, NamedLft, namedLft, ownAt, own-shut, ShrSlice, Is}
 use denote.Struct.Laws as LL
-use Rattle.walking.proofs.Data.{vals, Fits, have, typed}
-use Rattle.walking.proofs.Locals.{filled, leaves}
-use Rattle.walking.proofs.Again.{copies}
-use Rattle.walking.proofs.Whole.{calls, lands-at, ends, meets}
+use Rattle.proof_walk.proofs.Data.{vals, Fits, have, typed}
+use Rattle.proof_walk.proofs.Locals.{filled, leaves}
+use Rattle.proof_walk.proofs.Again.{copies}
+use Rattle.proof_walk.proofs.Whole.{calls, lands-at, ends, meets}
 use Rattle.format.specs.declared.Column.{Column}
 use Rattle.format.specs.declared.Opened.{Opened}
 use Rattle.format.specs.Refusals.{openedMeaning}

@@ -1,11 +1,11 @@
 -- `view::row` meets its contract: a walk of its MIR, by hand. The view is taken apart, and `row_of` is called with its column and its bytes.
 -- Assumes nothing.
-use Rattle.walking.proofs.Walk.{_≡_, refl, [], _∷_, URA, named, imm, w8, w32, tyInt, tyRef, SProp, emp, id⊢, Memory, Routine, Heap, WpFn, Tables, Atoms, Fun, factI, givenOf, tables, tablesOf}
-use Rattle.walking.proofs.Walk.{Given, ‵, _⊛_, _$_, !, move, drop, split, use1, look, init, stop, from, of-opd, no-more, assigns, returns, fmOf, slice-vals, uint-vals, uint-tells, sliceTy, Contract, Triple, tripleOf, entered, cited, namedLft, all-own, ownAt, rest, own-open, own-out, given, learn, and-then, load}
+use Rattle.proof_walk.proofs.Walk.{_≡_, refl, [], _∷_, URA, named, imm, w8, w32, tyInt, tyRef, SProp, emp, id⊢, Memory, Routine, Heap, WpFn, Tables, Atoms, Fun, factI, givenOf, tables, tablesOf}
+use Rattle.proof_walk.proofs.Walk.{Given, ‵, _⊛_, _$_, !, move, drop, split, use1, look, init, stop, from, of-opd, no-more, assigns, returns, fmOf, slice-vals, uint-vals, uint-tells, sliceTy, Contract, Triple, tripleOf, entered, cited, namedLft, all-own, ownAt, rest, own-open, own-out, given, learn, and-then, load}
 use denote.Struct.Laws as LL
-use Rattle.walking.proofs.Data.{vals, have, typed}
-use Rattle.walking.proofs.Locals.{filled, leaves}
-use Rattle.walking.proofs.Whole.{calls, lands-at, field-of, ends, meets}
+use Rattle.proof_walk.proofs.Data.{vals, have, typed}
+use Rattle.proof_walk.proofs.Locals.{filled, leaves}
+use Rattle.proof_walk.proofs.Whole.{calls, lands-at, field-of, ends, meets}
 use Rattle.view.proofs.Types as Ty
 use Rattle.format.specs.Refusals.{rowMeaning}
 use Rattle.format.specs.Reading.{rowAt}

@@ -1,11 +1,11 @@
 -- `view::rows` meets its contract: a walk of its MIR, by hand. A number is read out of the window of the column that the view holds.
 -- Assumes nothing.
-use Rattle.walking.proofs.Walk.{refl, [], _∷_, URA, w32, vint, SProp, emp, Memory, Routine, Heap, WpFn, Tables, Atoms, Fun, factI, givenOf, tables, tablesOf}
-use Rattle.walking.proofs.Walk.{Given, _$_, !, move, whole, sub, look-in, look, init, stop, fld, from, load, of-opd, assigns, returns, nothing, Triple, tripleOf, entered, namedLft}
+use Rattle.proof_walk.proofs.Walk.{refl, [], _∷_, URA, w32, vint, SProp, emp, Memory, Routine, Heap, WpFn, Tables, Atoms, Fun, factI, givenOf, tables, tablesOf}
+use Rattle.proof_walk.proofs.Walk.{Given, _$_, !, move, whole, sub, look-in, look, init, stop, fld, from, load, of-opd, assigns, returns, nothing, Triple, tripleOf, entered, namedLft}
 use denote.Struct.Laws as LL
-use Rattle.walking.proofs.Data.{number, have, typed}
-use Rattle.walking.proofs.Locals.{filled, leaves}
-use Rattle.walking.proofs.Whole.{ends, meets}
+use Rattle.proof_walk.proofs.Data.{number, have, typed}
+use Rattle.proof_walk.proofs.Locals.{filled, leaves}
+use Rattle.proof_walk.proofs.Whole.{ends, meets}
 use Rattle.view.proofs.Types as Ty
 use Rattle.format.proofs.Column as Col
 use Rattle.format.proofs.Column.Laws as Col′

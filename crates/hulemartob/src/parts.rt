@@ -1,0 +1,69 @@
+// What a byte is, and the rows that it names.
+ghost use Rattle.c_numbers.specs.Explaining.{Tells};
+ghost use Rattle.hulemartob.specs.Calls.{partFrom, rowsFrom};
+use byte_part::PartRead;
+use byte_part::naming::block_of;
+use byte_part::naming::which_part;
+use c_numbers::ACCEPTED;
+use c_numbers::Made;
+use c_numbers::column_from;
+use c_numbers::column_of;
+use c_numbers::parts::rows_told;
+use c_numbers::told;
+use format::Block;
+
+// The part that holds the byte at an offset.
+#[no_mangle]
+pub extern "C" fn hulemartob_part_at(
+    column: &[u64; 12],
+    bytes: &[u8],
+    offset: usize,
+    part: &mut [u64; 5],
+    refusal: &mut [u64; 2],
+)
+    ensures { λ _. ⌜ Tells (partFrom (now (column .entry)) (now (bytes .entry)) offset) (now (refusal .exit)) (now (part .entry)) (now (part .exit)) ⌝ }
+{
+    let opened = match column_from(column) {
+        Made::Column(opened) => opened,
+        Made::Refused(q) => {
+            *refusal = told(q);
+            return;
+        }
+    };
+    match byte_part::part_at(opened, bytes, offset) {
+        PartRead::Part(found) => {
+            let name = found.name;
+            let which = which_part(name);
+            let block = block_of(name) as u64;
+            *part = [
+                which,
+                block,
+                found.first as u64,
+                found.bytes as u64,
+                found.value,
+            ];
+            *refusal = ACCEPTED;
+        }
+        PartRead::Refused(q) => {
+            *refusal = told(q);
+        }
+    }
+}
+
+// The rows that own a bit of the byte at an offset.
+#[no_mangle]
+pub extern "C" fn hulemartob_rows_at(
+    column: &[u64; 12],
+    table: &[Block],
+    bytes: &[u8],
+    offset: usize,
+    rows: &mut [u64; 2],
+    refusal: &mut [u64; 2],
+)
+    ensures { λ _. ⌜ Tells (rowsFrom (now (column .entry)) (now (table .entry)) (now (bytes .entry)) offset) (now (refusal .exit)) (now (rows .entry)) (now (rows .exit)) ⌝ }
+{
+    let made = column_from(column);
+    let opened = column_of(made);
+    let answer = table_byte::rows_at(opened, table, bytes, offset);
+    rows_told(made, answer, rows, refusal);
+}

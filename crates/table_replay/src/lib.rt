@@ -1,0 +1,23 @@
+// Recorded lookups, replayed over an opened column with its block table, a lent list of block records.
+ghost use mathlib.Core.Path.{_≡_};
+ghost use Rattle.format.specs.Reading.{rowAt};
+ghost use Rattle.format.specs.Refusals.{replayedMeaning};
+ghost use Rattle.format.specs.Replaying.{replayed};
+use format::Block;
+use format::Column;
+use format::Replayed;
+
+// Runs the recorded lookups one after another, up to the first whose rows are not the recorded ones.
+pub fn replay(column: Column, table: &[Block], bytes: &[u8], recording: &[u8]) -> Replayed
+    ensures { λ r. ⌜ replayedMeaning r ≡ replayed (rowAt column (now (table .entry)) (now (bytes .entry))) (column .window .rows) (now (recording .entry)) ⌝ }
+{
+    let blocks = table.len();
+    let rows = column.window.rows;
+    let mut w = replay_walk::walking::begin(rows, recording);
+    while w.going {
+        let k = replay_walk::walking::block_of(column, w);
+        let block = table::block_at(table, k);
+        w = replay_walk::walking::step(column, blocks, block, bytes, recording, w);
+    }
+    w.answer
+}

@@ -1,0 +1,98 @@
+-- `show` is safe: the line's length that beginning answers lies inside the line.
+-- Assumes nothing.
+use Rattle.io.specs.Counts.{Counts}
+use denote.Ref.{now}
+use borrow.Author.Needs.{needs}
+use Rattle.text_list.proofs.Beginnings.{begun-owned}
+use Rattle.text_column.specs.Own.{Owned}
+use Rattle.test_list.proofs.show.Statement.{statement}
+use Rattle.test_list.proofs.show.Tie as tie
+
+write-all-requires : tie.Need-write-all-requires
+write-all-requires c κs = search needs
+
+begin-requires : tie.Need-begin-requires
+begin-requires c κs = search needs
+
+enum-known-n : tie.Need-enum-known-n
+enum-known-n c = search needs
+
+-- a refusal's line is there
+only-line : (c : tie.After-n) → Counts (c .n .given .0 .1 .0) (c .before .before .begin .last .1 .0)
+only-line c = rw (c .n .given .1) at (c .before .before .begin .ensures .counts)
+
+array-share-prefix-line : tie.Need-array-share-prefix-line
+array-share-prefix-line c = only-line (c .before) .0
+
+slice-aggregate-write-all : tie.Need-slice-aggregate-write-all
+slice-aggregate-write-all c = only-line (c .before .before) .1
+
+write-all-requires-2 : tie.Need-write-all-requires-2
+write-all-requires-2 c κs = search needs
+
+enum-known-own : tie.Need-enum-known-own
+enum-known-own c = search needs
+
+-- a column's first line is there
+first-line : (c : tie.After-own) → Counts (c .own .given .0 .1 .0) (c .before .before .begin .last .1 .0)
+first-line c = rw (c .own .given .1) at (c .before .before .begin .ensures .counts)
+
+array-share-prefix-line-2 : tie.Need-array-share-prefix-line-2
+array-share-prefix-line-2 c = first-line (c .before) .0
+
+slice-aggregate-write-all-2 : tie.Need-slice-aggregate-write-all-2
+slice-aggregate-write-all-2 c = first-line (c .before .before) .1
+
+write-all-requires-3 : tie.Need-write-all-requires-3
+write-all-requires-3 c κs = search needs
+
+-- and it is a column of the bytes
+owned : (c : tie.After-own) → Owned (now (c .before .before .before .before .before .before .before .args .bytes)) (c .own .given .0 .0 .column) (c .own .given .0 .0 .pass)
+owned c = begun-owned (rw (c .own .given .1) at (c .before .before .begin .ensures))
+
+show-rows-requires : tie.Need-show-rows-requires
+show-rows-requires c κs = owned (c .before .before .before)
+
+show-rows-requires-2 : tie.Need-show-rows-requires-2
+show-rows-requires-2 c κs = owned (c .before .before .before .before)
+
+end-line-requires : tie.Need-end-line-requires
+end-line-requires c κs = search needs
+
+array-share-prefix-line-3 : tie.Need-array-share-prefix-line-3
+array-share-prefix-line-3 c = search needs
+
+slice-aggregate-write-all-3 : tie.Need-slice-aggregate-write-all-3
+slice-aggregate-write-all-3 c = search needs
+
+write-all-requires-4 : tie.Need-write-all-requires-4
+write-all-requires-4 c κs = search needs
+
+returns : tie.Need-returns
+returns c = search needs
+
+returns-2 : tie.Need-returns-2
+returns-2 c = search needs
+
+pub show-spec : {M : Type 1} → statement M
+show-spec =
+    tie.close
+    (tie.spec
+    write-all-requires
+    begin-requires
+    enum-known-n
+    array-share-prefix-line
+    slice-aggregate-write-all
+    write-all-requires-2
+    enum-known-own
+    array-share-prefix-line-2
+    slice-aggregate-write-all-2
+    write-all-requires-3
+    show-rows-requires
+    show-rows-requires-2
+    end-line-requires
+    array-share-prefix-line-3
+    slice-aggregate-write-all-3
+    write-all-requires-4
+    returns
+    returns-2)

@@ -1,0 +1,54 @@
+// Replays the recordings of a file of cases, each below its title, through the call that `replay` makes. tools/answers/replays.py wrote the file, and says what
+// has to be printed.
+ghost use Prim.Native.Nat.{_<_};
+ghost use lib.ListN.{length};
+use libc::STDOUT_FILENO;
+use test_cases::length_at;
+
+// Writes a title, and the report of a replay.
+fn show(title: &[u8], bytes: &[u8], recording: &[u8]) {
+    io::write_all(STDOUT_FILENO, title);
+    let mut line = [0u8; 128];
+    let n = text_replay::report(bytes, recording, &mut line);
+    io::write_all(STDOUT_FILENO, &line[..n]);
+}
+
+// Internal: asks for an offset within the file. Shows the case that begins there: the lengths of its title, column and recording, then these. Returns the offset behind it,
+// or the file's end where it is cut off.
+fn show_case(file: &[u8], at: usize) -> usize
+    requires { ⌜ at < length (now file) ⌝ }
+    ensures { λ r. ⌜ at < r ⌝ }
+{
+    let size = file.len();
+    if size - at < 12 {
+        return size;
+    }
+    let title = at + 12;
+    let column = title + length_at(file, at);
+    let recording = column + length_at(file, at + 4);
+    let end = recording + length_at(file, at + 8);
+    if size < end {
+        return size;
+    }
+    show(
+        &file[title..column],
+        &file[column..recording],
+        &file[recording..end],
+    );
+    end
+}
+
+// Shows the cases of a file.
+fn show_all(file: &[u8]) {
+    let size = file.len();
+    let mut at = 0;
+    while at < size {
+        at = show_case(file, at);
+    }
+}
+
+fn main() {
+    let mut file = test_cases::room();
+    let n = tool_files::read_named(1, &mut file);
+    show_all(&file[..n]);
+}
