@@ -1,4 +1,4 @@
--- The data of the walks by hand, besides those of the crate records, and arrays.
+-- The data of the walks by hand, besides those of the crate `table`, and arrays.
 -- Assumes nothing.
 use Rattle.proof_walk.proofs.Data.{Data, enum}
 use Prim.Native.Nat.{ℕ}

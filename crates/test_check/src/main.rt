@@ -1,4 +1,4 @@
-// Checks the columns of a file of cases, each below its title, through the call that `checks` makes. tools/answers/checks.py wrote the file, and says what has to be
+// Checks the columns of a file of cases, each below its title, through the call that `check` makes. tools/answers/checks.py wrote the file, and says what has to be
 // printed.
 ghost use Prim.Native.Nat.{_<_};
 ghost use lib.ListN.{length};

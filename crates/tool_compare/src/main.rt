@@ -1,4 +1,4 @@
-// Compares the columns of two files, named as arguments, as text on standard output. The text is the library's, `comparison`; this program moves bytes.
+// Compares the columns of two files, named as arguments, as text on standard output. The text is the library's, `text_compare`; this program moves bytes.
 ghost use Prim.Native.Nat.{_≤_};
 ghost use lib.ListN.{length};
 ghost use Rattle.text_compare.specs.Chunk.{pairMax};

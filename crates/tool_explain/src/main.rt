@@ -1,4 +1,4 @@
-// Lists the parts of the column on standard input as text on standard output. The text is the library's, `explanation`; this program moves bytes.
+// Lists the parts of the column on standard input as text on standard output. The text is the library's, `text_explain`; this program moves bytes.
 use format::Column;
 use libc::STDOUT_FILENO;
 use text_explain::Begun;

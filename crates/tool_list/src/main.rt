@@ -1,4 +1,4 @@
-// Lists the column on standard input as text on standard output. The text is the library's, `listing`; this program moves bytes.
+// Lists the column on standard input as text on standard output. The text is the library's, `text_list`; this program moves bytes.
 ghost use Prim.Native.Nat.{_≤_};
 ghost use lib.ListN.{length};
 ghost use Rattle.text_list.specs.Chunk.{lineMax};
