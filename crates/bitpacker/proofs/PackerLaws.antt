@@ -2,7 +2,6 @@
 --     word-fits                                           the held bits and a number on top of them fit the word
 --     bits-so-far, held-short, hold-below                 what a packer holds
 --     packs-none, packs-held, packs-word, packs-done      nothing packed yet; a number is held; a word is written; the close
---     packs-same                                          a packer's contracts leave one result each
 --     packed-few, packed-count                            how many bytes rows fill
 --     packing-starts, packing-writable, packing-more, packing-closable, packing-ends
 --                                                         a loop over rows: before the first turn, in a turn and after it, and at the end
@@ -179,16 +178,6 @@ module _ {bits before : List ℕ} {p : BitPacker} {out : List ℕ} (s : Packs bi
               put ∙ ap₂ (λ (f r : List ℕ). f ++ numBytes 8 low ++ r) stands-front (stands-behind 8)
               ∙ ap (λ (l : List ℕ). l ++ drop (p .at + 8) before) (sym bytes);
         }
-
--- the bits say all of a packer: two that have packed the same are the same, and left the same bytes
-pub packs-same : {bits before : List ℕ} {p q : BitPacker} {a b : List ℕ} → Packs bits before p a → Packs bits before q b → (p ≡ q) × (a ≡ b)
-packs-same {bits} {before} s t =
-    let at = s .at-word ∙ sym (t .at-word) in
-    let held = s .held-bits ∙ sym (t .held-bits) in
-    let hold = s .hold-is ∙ ap (λ (k : ℕ). numOf (drop (8 * k) bits)) at ∙ sym (t .hold-is) in (
-      λ j. record { at = at j; held = held j; hold = hold j },
-      s .stands ∙ ap (λ (k : ℕ). bytesOf k bits ++ drop k before) at ∙ sym (t .stands),
-    )
 
 -- ---- how many bytes rows fill
 

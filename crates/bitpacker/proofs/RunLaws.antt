@@ -4,13 +4,13 @@
 --     part-byte, part-shift, part-most, part-less        number k of eight that start with a byte: where it lies
 --     group-row, group-starts, group-inside, group-next  a group of eight in its area, and the next one
 -- Assumes nothing.
-use mathlib.Core.Path.{_≡_, refl, sym, ap, _∙_}
+use mathlib.Core.Path.{_≡_, ap, _∙_}
 use mathlib.Core.Logic.{⊎-elim}
 use mathlib.Core.List.{List}
 use Prim.Native.Nat.{ℕ, _+_, _-_, _*_, _/_, _%_, _^_, _≤_, _<_}
-use native.Mathlib.Nat.{add-mul, mul-add, mul-comm, mul-assoc, mul-le-mul-left, mul-le-mul-right, eq-or-lt-of-le, not-suc-le-zero}
+use native.Mathlib.Nat.{add-mul, mul-assoc, mul-le-mul-left, mul-le-mul-right, eq-or-lt-of-le, not-suc-le-zero}
 use native.Mathlib.Omega.{arith}
-use lib.ListN.{length, getD, set}
+use lib.ListN.{length, set}
 use lib.Seq.{getD-set-same, getD-set-other}
 use Rattle.format.specs.Packing.{unpack}
 use Rattle.format.proofs.Widths.{legal-most}

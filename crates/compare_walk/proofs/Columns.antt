@@ -11,7 +11,7 @@ use lib.ListN.{length}
 use Rattle.format.specs.declared.Block.{Block}
 use Rattle.format.specs.declared.Column.{Column}
 use Rattle.format.specs.Comparing.{equalAnswers}
-use Rattle.format.specs.Outcome.{Outcome, Outcome.value, Outcome.refusal, _>>_, demand}
+use Rattle.format.specs.Outcome.{Outcome, Outcome.refusal, _>>_, demand}
 use Rattle.format.specs.Reading.{columnRow, blockAt, fits, packedOf, askedAs, valueAt, rowIn, rowAt}
 use Rattle.format.proofs.Rows.{ValueOr14, value-or-14}
 

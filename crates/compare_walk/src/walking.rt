@@ -5,7 +5,7 @@ ghost use Prim.Native.Nat.{ℕ, _+_, _-_, _/_, _%_, _^_, _≤_, _<_, max};
 ghost use lib.ListN.{length};
 ghost use Rattle.format.specs.Outcome.{Outcome};
 ghost use Rattle.format.specs.Reading.{columnRow, blockAt, rowAt};
-ghost use Rattle.compare_walk.specs.Equal.{sideRow, EqualFor, LookedAt};
+ghost use Rattle.compare_walk.specs.Equal.{sideRow, EqualFor};
 ghost use Rattle.compare_walk.specs.Walking.{Same, toGo, onwards, UnderWay, OnHand, Seeking};
 use crate::Difference;
 use crate::equal::Looked;

@@ -2,7 +2,7 @@
 --     all-agree, passing-agree, looked-agree             readings that agree on every row of a run
 --     Ascending, ascends                                 rows are found ascending
 --     Asked, found-asked, asked-found, exactly           exactly the rows of the run whose value passes the test are found
---     within-both, both-within                           the test of a value range
+--     within-both                                        the test of a value range
 --     looked-up                                          a lookup in a list of values refuses only 15
 -- Assumes nothing.
 use mathlib.Core.Path.{_≡_, refl, sym, _∙_}
@@ -14,7 +14,7 @@ use native.Mathlib.Nat.{eq-or-lt-of-le, le-refl, le-trans}
 use native.Mathlib.Omega.{arith}
 use lib.Dec.{leb}
 use lib.ListN.{length}
-use borrow.Author.Tests.{le-leb, leb-true}
+use borrow.Author.Tests.{leb-true}
 use Rattle.format.specs.Outcome.{Outcome, Outcome.value, _>>_, demand, pick}
 use Rattle.format.specs.Lookup.{allRead, rowsPassing, passes, lookedUp, within}
 use Rattle.format.specs.Demands.{readsAs}
@@ -129,9 +129,6 @@ module _ (low high v : ℕ) where
       go true a true b e = (leb-true _ _ a, leb-true _ _ b)
       go true a false b e = let z : _≡_ {A = ℕ} 0 1 = cc in absurd (omega arith)
       go false a t b e = let z : _≡_ {A = ℕ} 0 1 = cc in absurd (omega arith)
-
-  pub both-within : low ≤ v → v ≤ high → within low high v ≡ true
-  both-within a b = rw (le-leb low v a, le-leb v high b)
 
 -- ---- a lookup in a list of values
 

@@ -6,7 +6,7 @@
 --     told-fits, looked                        a chunk whose last row has a value, and whose rows have values
 -- Assumes nothing.
 use Prim.Native.Nat.{ℕ, zero, suc, _+_, _-_, _*_, _%_, _^_, _≤_, _<_}
-use mathlib.Core.Path.{_≡_, refl, sym, ap, _∙_}
+use mathlib.Core.Path.{_≡_, refl, sym, _∙_}
 use mathlib.Core.Bool.{Bool, true, false}
 use mathlib.Core.Logic.{inl, inr, ⊎-elim}
 use mathlib.Core.List.{List, [], _∷_}
@@ -20,7 +20,7 @@ use Rattle.format.specs.declared.Codec.the-variants.{Bitpacked, Linear, Blockwi
 use Rattle.format.specs.declared.Column.{Column}
 use Rattle.format.specs.declared.Line.{Line}
 use Rattle.format.specs.Line.{lineAt}
-use Rattle.format.specs.Outcome.{Outcome, Outcome.value, Outcome.refusal, _>>=_, _>>_, demand}
+use Rattle.format.specs.Outcome.{Outcome, Outcome.value, _>>=_, _>>_, demand}
 use Rattle.format.specs.Packing.{width, unpack}
 use Rattle.format.specs.Reading.{placeIn, placeOf, packedOf, valueIn, valueAt, columnRow, fits, askedAs, rowIn, scaled}
 use Rattle.format.specs.Runs.{readRun}

@@ -20,7 +20,7 @@ use Rattle.format.specs.declared.Refusal.{Refusal}
 use Rattle.format.specs.Outcome.{Outcome, Outcome.value, Outcome.refusal, _>>=_}
 use Rattle.format.specs.Refusals.{numbered}
 use Rattle.format.specs.Runs.{readRun}
-use Rattle.format.proofs.Outcomes.{not-value, value-same, by-step}
+use Rattle.format.proofs.Outcomes.{value-same, by-step}
 use Rattle.read_chunk.specs.declared.taking.Stretch.{Stretch}
 use Rattle.read_chunk.specs.declared.taking.Stretch.the-variants.{Whole, Stopped}
 use Rattle.read_chunk.specs.Stretch.{leading, stretch, ending, StretchAs}
@@ -69,30 +69,6 @@ module _ (read : ℕ → Outcome ℕ) where
       go (refusal number also) e j h rest = absurd (not-suc-le-zero h)
       go (value v) e zero h rest = ap read (add-zero r) ∙ e
       go (value v) e (suc j) h rest = ap read (add-suc r j ∙ sym (suc-add r j)) ∙ rest j (le-of-suc-le-suc h)
-
-  pub stretch-refused : (r n number : ℕ) (also : List ℕ) → ending read r n ≡ refusal number also
-      → (length (stretch read r n) < n) × (read (r + length (stretch read r n)) ≡ refusal number also)
-  unfolding stretch ending
-  stretch-refused r zero number also e = absurd (not-value (sym e))
-  stretch-refused r (suc n) number also e = go (read r) refl e (stretch-refused (suc r) n number also)
-    where
-      go : (o : Outcome ℕ) → read r ≡ o → (o >>= (λ (_ : ℕ). ending read (suc r) n)) ≡ refusal number also
-          → (ending read (suc r) n ≡ refusal number also → (length (stretch read (suc r) n) < n) × (read (suc r + length (stretch read (suc r) n)) ≡ refusal number also))
-          → (length (leading o (stretch read (suc r) n)) < suc n) × (read (r + length (leading o (stretch read (suc r) n))) ≡ refusal number also)
-      go (value v) q f rest =
-          let k = length (stretch read (suc r) n) in
-          (omega (arith, rest f .0), ap read (add-suc r k ∙ sym (suc-add r k)) ∙ rest f .1)
-      go (refusal a b) q f rest = (omega arith, ap read (add-zero r) ∙ q ∙ cc)
-
-  pub stretch-whole : (r n : ℕ) → ending read r n ≡ value tt → length (stretch read r n) ≡ n
-  unfolding stretch ending
-  stretch-whole r zero e = refl
-  stretch-whole r (suc n) e = go (read r) e (stretch-whole (suc r) n)
-    where
-      go : (o : Outcome ℕ) → (o >>= (λ (_ : ℕ). ending read (suc r) n)) ≡ value tt → (ending read (suc r) n ≡ value tt → length (stretch read (suc r) n) ≡ n)
-          → length (leading o (stretch read (suc r) n)) ≡ suc n
-      go (value v) f rest = ap suc (rest f)
-      go (refusal number also) f rest = absurd (not-value f)
 
   -- ---- the first row
 

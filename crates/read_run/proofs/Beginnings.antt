@@ -13,7 +13,7 @@ use lib.Seq.{sets}
 use borrow.Author.Tests.{leb-true, le-leb, lt-leb}
 use Rattle.format.specs.declared.Window.{Window}
 use Rattle.format.specs.declared.Refusal.the-variants.{NoSuchRow}
-use Rattle.format.specs.Outcome.{Outcome, Outcome.value, Outcome.refusal, _>>=_, _>>_, pick}
+use Rattle.format.specs.Outcome.{Outcome, Outcome.value, Outcome.refusal, _>>=_, pick}
 use Rattle.format.specs.Runs.{readRun, decoded}
 use Rattle.format.proofs.Runs.{run-long}
 use Rattle.read_walk.specs.declared.Walked.{Walked}

@@ -3,7 +3,7 @@
 --     looks            a pass that looks stores no chunk
 --     straight         no row is refused there, so that the list is what storing leaves
 -- Assumes nothing.
-use Prim.Native.Nat.{ℕ, _+_, _-_, _%_, _≤_, _<_}
+use Prim.Native.Nat.{ℕ, _+_, _-_, _≤_, _<_}
 use mathlib.Core.Path.{_≡_, refl, sym, ap, _∙_}
 use mathlib.Core.Bool.{true, false}
 use mathlib.Core.Logic.{⊎-elim}
@@ -12,7 +12,7 @@ use native.Mathlib.Omega.{arith}
 use lib.ListN.{length, take, drop, length-drop}
 use lib.Seq.{sets, sets-eq, drop-drop, length-take-le}
 use Rattle.format.specs.declared.Window.{Window}
-use Rattle.format.specs.Outcome.{Outcome, Outcome.value, pick, howMany}
+use Rattle.format.specs.Outcome.{Outcome, pick, howMany}
 use Rattle.format.specs.Runs.{readRun}
 use Rattle.format.proofs.Outcomes.{not-value}
 use Rattle.read_row.specs.declared.reader.Decoded.{Decoded}

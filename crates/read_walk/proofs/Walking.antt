@@ -6,7 +6,7 @@
 --     falls-looking, falls-on, falls-over                    what is left
 --     ended, is-passing, is-over                             the phase by what the state says
 --     left-as, stores-whole                                  the list, by what storing was told, and what that tells of the chunk
---     kept-long, passing-long, passing-run                   a lent list is as long as it was, and a run's as its rows
+--     passing-long, passing-run                              a lent list is as long as it was, and a run's as its rows
 --     nothing, more-stored                                   a list of no entries, and what was stored with more behind it
 -- Assumes nothing.
 use Prim.Native.Nat.{ℕ, suc, _+_, _-_, _/_, _%_, _^_, _<_, _≤_}
@@ -24,7 +24,7 @@ use Rattle.format.specs.declared.Block.{Block}
 use Rattle.format.specs.declared.Refusal.{Refusal}
 use Rattle.format.specs.declared.Window.{Window}
 use Rattle.format.specs.declared.Refusal.the-variants.{ListShort}
-use Rattle.format.specs.Outcome.{Outcome, Outcome.value, Outcome.refusal, _>>=_, _>>_, demand, pick, howMany, stored}
+use Rattle.format.specs.Outcome.{Outcome, Outcome.value, Outcome.refusal, _>>=_, _>>_, demand, pick, howMany}
 use Rattle.format.specs.Reading.{blockAt}
 use Rattle.format.specs.Refusals.{numbered, paper}
 use Rattle.format.specs.Runs.{readRun}
@@ -113,14 +113,6 @@ left-as xs ys e told f = rw (e, told) f
 pub stores-whole : (w : Walk) (d : Decoded) → stores w d ≡ true → (d ≡ Whole) × (w .storing ≡ true)
 stores-whole w Whole e = (refl, e)
 stores-whole w (NotDecoded x) e = let z : _≡_ {A = ℕ} 0 1 = cc in absurd (omega arith)
-
--- a lent list is as long as it was
-stored-long : (o : Outcome (List ℕ)) (list : List ℕ) → length (stored o list) ≡ length list
-stored-long (value xs) list = length-sets list 0 xs
-stored-long (refusal number also) list = refl
-
-pub kept-long : {o : Outcome (List ℕ)} {a : Walked} {before list : List ℕ} → WalkedAs o a before list → length list ≡ length before
-kept-long {o} {a} {before} {list} f = ap length (f .list) ∙ stored-long o before
 
 picked-long : (t : Bool) (before xs : List ℕ) → length (pick t (sets before 0 xs) before) ≡ length before
 picked-long true before xs = length-sets before 0 xs

@@ -1,5 +1,4 @@
 -- A check within a program's limits, from the verdict with room for 2048 blocks.
---     as-listed           under sheet 1 a program opens what it lists
 --     over-bytes          more than 65,536 bytes: 16, whatever they are
 --     within-limits       else the limited verdict, for a list that is not longer than the limit on rows
 -- Assumes nothing.
@@ -15,17 +14,13 @@ use lib.ListN.{length}
 use Rattle.format.specs.declared.Column.{Column}
 use Rattle.format.specs.declared.ColumnStats.{ColumnStats}
 use Rattle.format.specs.Checking.{Reason.unopened, Reason.counts, Reason.minimum, Reason.gcd, Reason.maximum, Verdict, Verdict.passed, Verdict.failed, or, byRow, firstUnequal, judgedHead, judged, checked}
-use Rattle.format.specs.Listing.{tooMany, openedHere}
+use Rattle.format.specs.Listing.{tooMany}
 use Rattle.format.specs.Opening.{Loaded}
 use Rattle.format.specs.Outcome.{Outcome, Outcome.value, Outcome.refusal, _>>_, demand, pick}
 use Rattle.format.specs.Reading.{rowAt}
-use Rattle.format.specs.Sheets.{underSheet, openedUnder}
+use Rattle.format.specs.Sheets.{openedUnder}
 use Rattle.format.specs.Stats.{statsOf}
 use Rattle.text_check.specs.Verdicts.{openedHereUnder, limited}
-
-pub as-listed : (s : List ℕ) → openedHereUnder 1 s ≡ openedHere s
-unfolding openedHereUnder openedHere underSheet
-as-listed s = refl
 
 pub over-bytes : (sheet : ℕ) (s vs : List ℕ) → 65536 < length s → failed (unopened 16 []) ≡ checked (openedHereUnder sheet s) s vs
 unfolding openedHereUnder

@@ -2,7 +2,7 @@
 --     lacks, own-lacking                               a row that a window lacks: 12
 --     here-laid, here-rows                             it is laid as opening found; its window has all rows
 --     own-reads                                        with its own bytes it reads by the opening's own blocks
---     opens-shows, shows-narrowed, narrowed-shows      as opened, or narrowed any number of times, it is seen through a window that lies in it
+--     opens-shows, shows-narrowed                      as opened, or narrowed any number of times, it is seen through a window that lies in it
 --     by-shown, shows-laid                             what is said of such a column is said of what opening found, with its window
 --     own-sayable                                      an answer is one that a line has room for
 -- Assumes nothing.
@@ -31,7 +31,7 @@ use Rattle.format.specs.Windows.{windowed, inWindow, narrowed}
 use Rattle.format.proofs.Laid.{Laid, opened-laid, laid-in, opened-whole}
 use Rattle.format.proofs.Lists.{below-or}
 use Rattle.format.proofs.Rows.{row-answers}
-use Rattle.format.proofs.Windows.{narrowed-is, NarrowedFrom, NarrowedFrom.itself, NarrowedFrom.again}
+use Rattle.format.proofs.Windows.{narrowed-is}
 use Rattle.text_column.specs.Own.{tableOf, ownRow, Opens, Shows}
 use Rattle.text_column.proofs.Limits.{here-opened}
 use Rattle.text.proofs.Texts.{Sayable}
@@ -97,10 +97,6 @@ shows-narrowed {s} {c} {d} first count e n =
     let w : Window = record { first = columnRow c first; rows = count } in
     subst (λ (k : Column). Shows s k) (sym (to .is))
     (record { found = e .found; opened = e .opened; inside = omega (arith, to .rows, e .inside); column = ap (λ (k : Column). windowed k w) (e .column) })
-
-pub narrowed-shows : {s : List ℕ} {c d : Column} → Opens s c → NarrowedFrom c d → Shows s d
-narrowed-shows e itself = opens-shows e
-narrowed-shows e (again first count from n) = shows-narrowed first count (narrowed-shows e from) n
 
 module _ {s : List ℕ} {c : Column} (e : Shows s c) where
   -- what is said of the column is said of what opening found, with its window

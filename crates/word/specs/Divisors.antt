@@ -1,6 +1,6 @@
 -- A divisor that was made ready.
 -- Assumes nothing.
-use Prim.Native.Nat.{ℕ, _*_, _^_, _<_}
+use Prim.Native.Nat.{_*_, _^_, _<_}
 use Rattle.word.specs.declared.divisor.Divisor.{Divisor}
 
 -- its shift can be made, and no quotient up to the largest has a product of more than 64 bits; of the inverse nothing is asked

@@ -1,7 +1,7 @@
 -- `bitpacker::groups` meets its contract, by the invariant `Grouping`.
 -- Assumes nothing.
 use Prim.Native.Nat.{_-_}
-use mathlib.Core.Path.{refl, _∙_}
+use mathlib.Core.Path.{refl}
 use native.Mathlib.Omega.{arith}
 use lib.Dec.{lit<}
 use Rattle.bitpacker.proofs.RunLaws.{Grouping, place-fits, group-starts, group-inside, group-next, unpacked-to}

@@ -1,6 +1,5 @@
 -- `bitpacker::put_part` meets its contract: one entry more stands in the list.
 -- Assumes nothing.
-use native.Mathlib.Omega.{arith}
 use borrow.Author.Needs.{needs}
 use Rattle.bitpacker.proofs.RunLaws.{unpacked-more, group-row}
 use Rattle.bitpacker.proofs.put_part.Statement.{statement}

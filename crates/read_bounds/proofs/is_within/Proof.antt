@@ -1,16 +1,13 @@
 -- `read_bounds::is_within` meets its contract: rows with multiples up to the count have values.
 -- Assumes nothing.
-use Prim.Native.Nat.{ℕ, _+_, _%_, _≤_}
-use mathlib.Core.Path.{_≡_, refl, sym, ap, _∙_}
+use Prim.Native.Nat.{ℕ, _≤_}
+use mathlib.Core.Path.{refl, sym}
 use native.Mathlib.Omega.{arith}
 use denote.Ref.{now}
-use lib.ListN.{length}
 use borrow.Author.Tests.{not-false, eqb-true}
-use Rattle.format.specs.declared.Column.{Column}
-use Rattle.format.specs.Reading.{placeOf}
 use Rattle.format.proofs.Lists.{front-length}
-use Rattle.read_row.specs.Chunks.{Chunk, Fitting}
-use Rattle.read_bounds.proofs.Sures.{never, chunk-as, multiples-stand, multiples-fit}
+use Rattle.read_row.specs.Chunks.{Chunk}
+use Rattle.read_bounds.proofs.Sures.{never, multiples-stand, multiples-fit}
 use borrow.Author.Needs.{needs}
 use Rattle.read_bounds.proofs.is_within.Statement.{statement}
 use Rattle.read_bounds.proofs.is_within.Tie as tie
