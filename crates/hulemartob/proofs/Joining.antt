@@ -33,7 +33,7 @@ use Rattle.format.specs.Runs.{decoded, readRun}
 use Rattle.format.specs.Sheets.{openedUnder, underSheet}
 use Rattle.format.specs.Typed.{storedAs}
 use Rattle.format.specs.Word.{modAdd}
-use Rattle.table_check.specs.Checked.{CheckedAs}
+use Rattle.table_asked.specs.Checked.{CheckedAs}
 use Rattle.c_numbers.specs.declared.Made.{Made}
 use Rattle.c_numbers.specs.declared.Made.the-variants.{Column as MadeColumn, Refused as NotMade}
 use Rattle.c_numbers.specs.declared.kinds.Known.{Known}

@@ -23,6 +23,6 @@ pub extern "C" fn hulemartob_check(
     let known = kind_from(kind);
     let values_kind = kind_of(known);
     let under = sheet_of(known, sheet);
-    let checked = table_check::check_as(values_kind, under, bytes, values, table);
+    let checked = table_asked::check_as(values_kind, under, bytes, values, table);
     verdict_told(known, checked, verdict, refusal);
 }

@@ -25,6 +25,6 @@ pub extern "C" fn hulemartob_difference(
     let lopened = column_of(lmade);
     let rmade = column_from(right);
     let ropened = column_of(rmade);
-    let answer = table_compare::difference(lopened, ltable, lbytes, ropened, rtable, rbytes, from);
+    let answer = table_asked::difference(lopened, ltable, lbytes, ropened, rtable, rbytes, from);
     difference_told(lmade, rmade, answer, difference, refusal);
 }

@@ -64,6 +64,6 @@ pub extern "C" fn hulemartob_rows_at(
 {
     let made = column_from(column);
     let opened = column_of(made);
-    let answer = table_byte::rows_at(opened, table, bytes, offset);
+    let answer = table_asked::rows_at(opened, table, bytes, offset);
     rows_told(made, answer, rows, refusal);
 }

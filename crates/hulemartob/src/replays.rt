@@ -20,6 +20,6 @@ pub extern "C" fn hulemartob_replay(
 {
     let made = column_from(column);
     let opened = column_of(made);
-    let answer = table_replay::replay(opened, table, bytes, recording);
+    let answer = table_asked::replay(opened, table, bytes, recording);
     report_told(made, answer, report, refusal);
 }

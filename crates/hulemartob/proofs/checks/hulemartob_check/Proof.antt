@@ -11,7 +11,7 @@ use Rattle.format.specs.Outcome.{Outcome.value}
 use Rattle.format.specs.Refusals.{checkedMeaning}
 use Rattle.format.specs.Sheets.{openedUnder}
 use Rattle.format.specs.Typed.{storedAs}
-use Rattle.table_check.specs.Checked.{CheckedAs}
+use Rattle.table_asked.specs.Checked.{CheckedAs}
 use Rattle.table.proofs.Types as Ty
 use Rattle.c_answers.specs.Checking.{verdictNumbers}
 use Rattle.c_numbers.specs.Explaining.{Tells}
@@ -31,10 +31,10 @@ use Rattle.c_numbers.proofs.kinds.sheet_of as so
 use Rattle.c_numbers.proofs.kinds.sheet_of.Symbol as so-def
 use Rattle.c_numbers.proofs.kinds.sheet_of.Symbol.{name as #c-numbers·kinds·sheet-of}
 use Rattle.c_numbers.proofs.kinds.sheet_of.Met as so-thm
-use Rattle.table_check.proofs.check_as as ck
-use Rattle.table_check.proofs.check_as.Symbol as ck-def
-use Rattle.table_check.proofs.check_as.Symbol.{name as #table-check·check-as}
-use Rattle.table_check.proofs.check_as.Met as ck-thm
+use Rattle.table_asked.proofs.check_as as ck
+use Rattle.table_asked.proofs.check_as.Symbol as ck-def
+use Rattle.table_asked.proofs.check_as.Symbol.{name as #table-asked·check-as}
+use Rattle.table_asked.proofs.check_as.Met as ck-thm
 use Rattle.c_answers.proofs.checks.verdict_told as vt
 use Rattle.c_answers.proofs.checks.verdict_told.Symbol as vt-def
 use Rattle.c_answers.proofs.checks.verdict_told.Symbol.{name as #c-answers·checks·verdict-told}
@@ -61,7 +61,7 @@ module _ {M : Type 1} (𝓤 : URA M) (H : Heap 𝓤) (A : Atoms 𝓤) (mem : Mem
   abbrev Told : Contract 𝓤
   Told = tripleOf 𝓤 H A vt.signature (vt.spec 𝓤 H A mem run)
 
-  walk : (W : Given 𝓤 H A) (𝓣 : Tables 𝓤 H) → Triple 𝓤 (𝓣 .C #c-numbers·kinds·kind-from) From → Triple 𝓤 (𝓣 .C #c-numbers·kinds·kind-of) Of → Triple 𝓤 (𝓣 .C #c-numbers·kinds·sheet-of) Under → Triple 𝓤 (𝓣 .C #table-check·check-as) Check → Triple 𝓤 (𝓣 .C #c-answers·checks·verdict-told) Told → Triple 𝓤 (WpFn 𝓤 H (𝓣 .C) (𝓣 .Λ) code.function) (tripleOf 𝓤 H A f.signature (f.spec 𝓤 H A mem run))
+  walk : (W : Given 𝓤 H A) (𝓣 : Tables 𝓤 H) → Triple 𝓤 (𝓣 .C #c-numbers·kinds·kind-from) From → Triple 𝓤 (𝓣 .C #c-numbers·kinds·kind-of) Of → Triple 𝓤 (𝓣 .C #c-numbers·kinds·sheet-of) Under → Triple 𝓤 (𝓣 .C #table-asked·check-as) Check → Triple 𝓤 (𝓣 .C #c-answers·checks·verdict-told) Told → Triple 𝓤 (WpFn 𝓤 H (𝓣 .C) (𝓣 .Λ) code.function) (tripleOf 𝓤 H A f.signature (f.spec 𝓤 H A mem run))
   walk W 𝓣 known-kf known-ko known-so known-ck known-vt =
       meets 𝓤 H A W (𝓣 .C) (𝓣 .Λ) f.ended (f.clauses 𝓤 H A mem run) code.function
       (λ κs. (uint-vals w32, (uint-vals w32, (slice-vals, (slice-vals, (slice-vals, (ptr-vals, (ptr-vals, tt))))))))
@@ -101,5 +101,5 @@ hulemartob-check-spec 𝓤 H 𝓜 𝓖 𝓡 =
     (cited 𝓤 H (From 𝓤 H (𝓖 .A) (𝓜 .mem) (𝓡 .run)) 𝓜 𝓡 code.env #c-numbers·kinds·kind-from kf-def.routine code.calls-c-numbers·kinds·kind-from (kf-thm.met 𝓤 H 𝓜 𝓖 𝓡))
     (cited 𝓤 H (Of 𝓤 H (𝓖 .A) (𝓜 .mem) (𝓡 .run)) 𝓜 𝓡 code.env #c-numbers·kinds·kind-of ko-def.routine code.calls-c-numbers·kinds·kind-of (ko-thm.met 𝓤 H 𝓜 𝓖 𝓡))
     (cited 𝓤 H (Under 𝓤 H (𝓖 .A) (𝓜 .mem) (𝓡 .run)) 𝓜 𝓡 code.env #c-numbers·kinds·sheet-of so-def.routine code.calls-c-numbers·kinds·sheet-of (so-thm.met 𝓤 H 𝓜 𝓖 𝓡))
-    (cited 𝓤 H (Check 𝓤 H (𝓖 .A) (𝓜 .mem) (𝓡 .run)) 𝓜 𝓡 code.env #table-check·check-as ck-def.routine code.calls-table-check·check-as (ck-thm.met 𝓤 H 𝓜 𝓖 𝓡))
+    (cited 𝓤 H (Check 𝓤 H (𝓖 .A) (𝓜 .mem) (𝓡 .run)) 𝓜 𝓡 code.env #table-asked·check-as ck-def.routine code.calls-table-asked·check-as (ck-thm.met 𝓤 H 𝓜 𝓖 𝓡))
     (cited 𝓤 H (Told 𝓤 H (𝓖 .A) (𝓜 .mem) (𝓡 .run)) 𝓜 𝓡 code.env #c-answers·checks·verdict-told vt-def.routine code.calls-c-answers·checks·verdict-told (vt-thm.met 𝓤 H 𝓜 𝓖 𝓡)))

@@ -12,7 +12,7 @@ use Rattle.format.specs.declared.Column.{Column}
 use Rattle.format.specs.Outcome.{Outcome, Outcome.value, _>>=_}
 use Rattle.compare_walk.specs.Differences.{Pair, columnsDiffer, differenceMeaning}
 use Rattle.table.proofs.Types as Ty
-use Rattle.table_compare.proofs.Types as Own
+use Rattle.table_asked.proofs.Types as Own
 use Rattle.c_numbers.specs.Explaining.{Tells}
 use Rattle.c_numbers.specs.Numbers.{after, columnFrom, madeMeaning, columnOf}
 use Rattle.c_answers.specs.Differing.{differenceNumbers}
@@ -26,10 +26,10 @@ use Rattle.c_numbers.proofs.column_of as co
 use Rattle.c_numbers.proofs.column_of.Symbol as co-def
 use Rattle.c_numbers.proofs.column_of.Symbol.{name as #c-numbers·column-of}
 use Rattle.c_numbers.proofs.column_of.Met as co-thm
-use Rattle.table_compare.proofs.difference as df
-use Rattle.table_compare.proofs.difference.Symbol as df-def
-use Rattle.table_compare.proofs.difference.Symbol.{name as #table-compare·difference}
-use Rattle.table_compare.proofs.difference.Met as df-thm
+use Rattle.table_asked.proofs.difference as df
+use Rattle.table_asked.proofs.difference.Symbol as df-def
+use Rattle.table_asked.proofs.difference.Symbol.{name as #table-asked·difference}
+use Rattle.table_asked.proofs.difference.Met as df-thm
 use Rattle.c_answers.proofs.differs.difference_told as dt
 use Rattle.c_answers.proofs.differs.difference_told.Symbol as dt-def
 use Rattle.c_answers.proofs.differs.difference_told.Symbol.{name as #c-answers·differs·difference-told}
@@ -53,7 +53,7 @@ module _ {M : Type 1} (𝓤 : URA M) (H : Heap 𝓤) (A : Atoms 𝓤) (mem : Mem
   abbrev Told : Contract 𝓤
   Told = tripleOf 𝓤 H A dt.signature (dt.spec 𝓤 H A mem run)
 
-  walk : (W : Given 𝓤 H A) (𝓣 : Tables 𝓤 H) → Triple 𝓤 (𝓣 .C #c-numbers·column-from) From → Triple 𝓤 (𝓣 .C #c-numbers·column-of) Of → Triple 𝓤 (𝓣 .C #table-compare·difference) Found → Triple 𝓤 (𝓣 .C #c-answers·differs·difference-told) Told → Triple 𝓤 (WpFn 𝓤 H (𝓣 .C) (𝓣 .Λ) code.function) (tripleOf 𝓤 H A f.signature (f.spec 𝓤 H A mem run))
+  walk : (W : Given 𝓤 H A) (𝓣 : Tables 𝓤 H) → Triple 𝓤 (𝓣 .C #c-numbers·column-from) From → Triple 𝓤 (𝓣 .C #c-numbers·column-of) Of → Triple 𝓤 (𝓣 .C #table-asked·difference) Found → Triple 𝓤 (𝓣 .C #c-answers·differs·difference-told) Told → Triple 𝓤 (WpFn 𝓤 H (𝓣 .C) (𝓣 .Λ) code.function) (tripleOf 𝓤 H A f.signature (f.spec 𝓤 H A mem run))
   walk W 𝓣 known-cf known-co known-df known-dt =
       meets 𝓤 H A W (𝓣 .C) (𝓣 .Λ) f.ended (f.clauses 𝓤 H A mem run) code.function
       (λ κs. (ptr-vals, (slice-vals, (slice-vals, (ptr-vals, (slice-vals, (slice-vals, (uint-vals w32, (ptr-vals, (ptr-vals, tt))))))))))
@@ -97,5 +97,5 @@ hulemartob-difference-spec 𝓤 H 𝓜 𝓖 𝓡 =
     (walk 𝓤 H (𝓖 .A) (𝓜 .mem) (𝓡 .run) (givenOf 𝓤 H 𝓜 𝓖) (tablesOf 𝓤 H 𝓜 (tables 𝓤 H 𝓜 𝓡 code.env))
     (cited 𝓤 H (From 𝓤 H (𝓖 .A) (𝓜 .mem) (𝓡 .run)) 𝓜 𝓡 code.env #c-numbers·column-from cf-def.routine code.calls-c-numbers·column-from (cf-thm.met 𝓤 H 𝓜 𝓖 𝓡))
     (cited 𝓤 H (Of 𝓤 H (𝓖 .A) (𝓜 .mem) (𝓡 .run)) 𝓜 𝓡 code.env #c-numbers·column-of co-def.routine code.calls-c-numbers·column-of (co-thm.met 𝓤 H 𝓜 𝓖 𝓡))
-    (cited 𝓤 H (Found 𝓤 H (𝓖 .A) (𝓜 .mem) (𝓡 .run)) 𝓜 𝓡 code.env #table-compare·difference df-def.routine code.calls-table-compare·difference (df-thm.met 𝓤 H 𝓜 𝓖 𝓡))
+    (cited 𝓤 H (Found 𝓤 H (𝓖 .A) (𝓜 .mem) (𝓡 .run)) 𝓜 𝓡 code.env #table-asked·difference df-def.routine code.calls-table-asked·difference (df-thm.met 𝓤 H 𝓜 𝓖 𝓡))
     (cited 𝓤 H (Told 𝓤 H (𝓖 .A) (𝓜 .mem) (𝓡 .run)) 𝓜 𝓡 code.env #c-answers·differs·difference-told dt-def.routine code.calls-c-answers·differs·difference-told (dt-thm.met 𝓤 H 𝓜 𝓖 𝓡)))

@@ -23,10 +23,10 @@ use Rattle.c_numbers.proofs.column_of as co
 use Rattle.c_numbers.proofs.column_of.Symbol as co-def
 use Rattle.c_numbers.proofs.column_of.Symbol.{name as #c-numbers·column-of}
 use Rattle.c_numbers.proofs.column_of.Met as co-thm
-use Rattle.table_byte.proofs.rows_at as ra
-use Rattle.table_byte.proofs.rows_at.Symbol as ra-def
-use Rattle.table_byte.proofs.rows_at.Symbol.{name as #table-byte·rows-at}
-use Rattle.table_byte.proofs.rows_at.Met as ra-thm
+use Rattle.table_asked.proofs.rows_at as ra
+use Rattle.table_asked.proofs.rows_at.Symbol as ra-def
+use Rattle.table_asked.proofs.rows_at.Symbol.{name as #table-asked·rows-at}
+use Rattle.table_asked.proofs.rows_at.Met as ra-thm
 use Rattle.c_numbers.proofs.parts.rows_told as rt
 use Rattle.c_numbers.proofs.parts.rows_told.Symbol as rt-def
 use Rattle.c_numbers.proofs.parts.rows_told.Symbol.{name as #c-numbers·parts·rows-told}
@@ -50,7 +50,7 @@ module _ {M : Type 1} (𝓤 : URA M) (H : Heap 𝓤) (A : Atoms 𝓤) (mem : Mem
   abbrev Told : Contract 𝓤
   Told = tripleOf 𝓤 H A rt.signature (rt.spec 𝓤 H A mem run)
 
-  walk : (W : Given 𝓤 H A) (𝓣 : Tables 𝓤 H) → Triple 𝓤 (𝓣 .C #c-numbers·column-from) From → Triple 𝓤 (𝓣 .C #c-numbers·column-of) Of → Triple 𝓤 (𝓣 .C #table-byte·rows-at) Rows → Triple 𝓤 (𝓣 .C #c-numbers·parts·rows-told) Told → Triple 𝓤 (WpFn 𝓤 H (𝓣 .C) (𝓣 .Λ) code.function) (tripleOf 𝓤 H A f.signature (f.spec 𝓤 H A mem run))
+  walk : (W : Given 𝓤 H A) (𝓣 : Tables 𝓤 H) → Triple 𝓤 (𝓣 .C #c-numbers·column-from) From → Triple 𝓤 (𝓣 .C #c-numbers·column-of) Of → Triple 𝓤 (𝓣 .C #table-asked·rows-at) Rows → Triple 𝓤 (𝓣 .C #c-numbers·parts·rows-told) Told → Triple 𝓤 (WpFn 𝓤 H (𝓣 .C) (𝓣 .Λ) code.function) (tripleOf 𝓤 H A f.signature (f.spec 𝓤 H A mem run))
   walk W 𝓣 known-cf known-co known-ra known-rt =
       meets 𝓤 H A W (𝓣 .C) (𝓣 .Λ) f.ended (f.clauses 𝓤 H A mem run) code.function
       (λ κs. (ptr-vals, (slice-vals, (slice-vals, (uint-vals w64, (ptr-vals, (ptr-vals, tt)))))))
@@ -85,5 +85,5 @@ hulemartob-rows-at-spec 𝓤 H 𝓜 𝓖 𝓡 =
     (walk 𝓤 H (𝓖 .A) (𝓜 .mem) (𝓡 .run) (givenOf 𝓤 H 𝓜 𝓖) (tablesOf 𝓤 H 𝓜 (tables 𝓤 H 𝓜 𝓡 code.env))
     (cited 𝓤 H (From 𝓤 H (𝓖 .A) (𝓜 .mem) (𝓡 .run)) 𝓜 𝓡 code.env #c-numbers·column-from cf-def.routine code.calls-c-numbers·column-from (cf-thm.met 𝓤 H 𝓜 𝓖 𝓡))
     (cited 𝓤 H (Of 𝓤 H (𝓖 .A) (𝓜 .mem) (𝓡 .run)) 𝓜 𝓡 code.env #c-numbers·column-of co-def.routine code.calls-c-numbers·column-of (co-thm.met 𝓤 H 𝓜 𝓖 𝓡))
-    (cited 𝓤 H (Rows 𝓤 H (𝓖 .A) (𝓜 .mem) (𝓡 .run)) 𝓜 𝓡 code.env #table-byte·rows-at ra-def.routine code.calls-table-byte·rows-at (ra-thm.met 𝓤 H 𝓜 𝓖 𝓡))
+    (cited 𝓤 H (Rows 𝓤 H (𝓖 .A) (𝓜 .mem) (𝓡 .run)) 𝓜 𝓡 code.env #table-asked·rows-at ra-def.routine code.calls-table-asked·rows-at (ra-thm.met 𝓤 H 𝓜 𝓖 𝓡))
     (cited 𝓤 H (Told 𝓤 H (𝓖 .A) (𝓜 .mem) (𝓡 .run)) 𝓜 𝓡 code.env #c-numbers·parts·rows-told rt-def.routine code.calls-c-numbers·parts·rows-told (rt-thm.met 𝓤 H 𝓜 𝓖 𝓡)))

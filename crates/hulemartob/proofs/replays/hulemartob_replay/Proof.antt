@@ -13,7 +13,7 @@ use Rattle.format.specs.Reading.{rowAt}
 use Rattle.format.specs.Refusals.{replayedMeaning}
 use Rattle.format.specs.Replaying.{Report, replayed}
 use Rattle.table.proofs.Types as Ty
-use Rattle.table_replay.proofs.Types as Own
+use Rattle.table_asked.proofs.Types as Own
 use Rattle.c_numbers.specs.Numbers.{after, columnFrom, madeMeaning, columnOf}
 use Rattle.c_answers.specs.Replaying.{Reports}
 use Rattle.hulemartob.proofs.Types as T′
@@ -26,10 +26,10 @@ use Rattle.c_numbers.proofs.column_of as co
 use Rattle.c_numbers.proofs.column_of.Symbol as co-def
 use Rattle.c_numbers.proofs.column_of.Symbol.{name as #c-numbers·column-of}
 use Rattle.c_numbers.proofs.column_of.Met as co-thm
-use Rattle.table_replay.proofs.replay as rp
-use Rattle.table_replay.proofs.replay.Symbol as rp-def
-use Rattle.table_replay.proofs.replay.Symbol.{name as #table-replay·replay}
-use Rattle.table_replay.proofs.replay.Met as rp-thm
+use Rattle.table_asked.proofs.replay as rp
+use Rattle.table_asked.proofs.replay.Symbol as rp-def
+use Rattle.table_asked.proofs.replay.Symbol.{name as #table-asked·replay}
+use Rattle.table_asked.proofs.replay.Met as rp-thm
 use Rattle.c_answers.proofs.replays.report_told as rt
 use Rattle.c_answers.proofs.replays.report_told.Symbol as rt-def
 use Rattle.c_answers.proofs.replays.report_told.Symbol.{name as #c-answers·replays·report-told}
@@ -53,7 +53,7 @@ module _ {M : Type 1} (𝓤 : URA M) (H : Heap 𝓤) (A : Atoms 𝓤) (mem : Mem
   abbrev Told : Contract 𝓤
   Told = tripleOf 𝓤 H A rt.signature (rt.spec 𝓤 H A mem run)
 
-  walk : (W : Given 𝓤 H A) (𝓣 : Tables 𝓤 H) → Triple 𝓤 (𝓣 .C #c-numbers·column-from) From → Triple 𝓤 (𝓣 .C #c-numbers·column-of) Of → Triple 𝓤 (𝓣 .C #table-replay·replay) Ran → Triple 𝓤 (𝓣 .C #c-answers·replays·report-told) Told → Triple 𝓤 (WpFn 𝓤 H (𝓣 .C) (𝓣 .Λ) code.function) (tripleOf 𝓤 H A f.signature (f.spec 𝓤 H A mem run))
+  walk : (W : Given 𝓤 H A) (𝓣 : Tables 𝓤 H) → Triple 𝓤 (𝓣 .C #c-numbers·column-from) From → Triple 𝓤 (𝓣 .C #c-numbers·column-of) Of → Triple 𝓤 (𝓣 .C #table-asked·replay) Ran → Triple 𝓤 (𝓣 .C #c-answers·replays·report-told) Told → Triple 𝓤 (WpFn 𝓤 H (𝓣 .C) (𝓣 .Λ) code.function) (tripleOf 𝓤 H A f.signature (f.spec 𝓤 H A mem run))
   walk W 𝓣 known-cf known-co known-rp known-rt =
       meets 𝓤 H A W (𝓣 .C) (𝓣 .Λ) f.ended (f.clauses 𝓤 H A mem run) code.function
       (λ κs. (ptr-vals, (slice-vals, (slice-vals, (slice-vals, (ptr-vals, (ptr-vals, tt)))))))
@@ -88,5 +88,5 @@ hulemartob-replay-spec 𝓤 H 𝓜 𝓖 𝓡 =
     (walk 𝓤 H (𝓖 .A) (𝓜 .mem) (𝓡 .run) (givenOf 𝓤 H 𝓜 𝓖) (tablesOf 𝓤 H 𝓜 (tables 𝓤 H 𝓜 𝓡 code.env))
     (cited 𝓤 H (From 𝓤 H (𝓖 .A) (𝓜 .mem) (𝓡 .run)) 𝓜 𝓡 code.env #c-numbers·column-from cf-def.routine code.calls-c-numbers·column-from (cf-thm.met 𝓤 H 𝓜 𝓖 𝓡))
     (cited 𝓤 H (Of 𝓤 H (𝓖 .A) (𝓜 .mem) (𝓡 .run)) 𝓜 𝓡 code.env #c-numbers·column-of co-def.routine code.calls-c-numbers·column-of (co-thm.met 𝓤 H 𝓜 𝓖 𝓡))
-    (cited 𝓤 H (Ran 𝓤 H (𝓖 .A) (𝓜 .mem) (𝓡 .run)) 𝓜 𝓡 code.env #table-replay·replay rp-def.routine code.calls-table-replay·replay (rp-thm.met 𝓤 H 𝓜 𝓖 𝓡))
+    (cited 𝓤 H (Ran 𝓤 H (𝓖 .A) (𝓜 .mem) (𝓡 .run)) 𝓜 𝓡 code.env #table-asked·replay rp-def.routine code.calls-table-asked·replay (rp-thm.met 𝓤 H 𝓜 𝓖 𝓡))
     (cited 𝓤 H (Told 𝓤 H (𝓖 .A) (𝓜 .mem) (𝓡 .run)) 𝓜 𝓡 code.env #c-answers·replays·report-told rt-def.routine code.calls-c-answers·replays·report-told (rt-thm.met 𝓤 H 𝓜 𝓖 𝓡)))

@@ -1,0 +1,12 @@
+-- Laws; the head of each file lists what it offers.
+
+-- the walks by hand
+pub mod Types
+pub mod ReplayRounds
+pub mod CompareRounds
+pub mod ByteRounds
+-- what opening found
+pub mod Tables
+-- of the calls
+pub mod Calls
+pub mod Determined
