@@ -1,12 +1,9 @@
 // A view for those who write tools: a column's bytes together with its opened numbers, in place of three things in each call. It takes Bitpacked and Linear columns, which have no block table;
 // first stand the calls on plain parameters, then the view above them.
 ghost use mathlib.Core.Path.{_≡_};
-ghost use mathlib.Core.List.{[]};
-ghost use Rattle.format.specs.Refusals.{openedMeaning, rowMeaning};
-ghost use Rattle.format.specs.Opening.{columnIn};
-ghost use Rattle.format.specs.Reading.{rowAt};
-ghost use Rattle.format.specs.Viewing.{viewedUnder};
+ghost use Rattle.format.specs.Refusals.{openedMeaning};
 ghost use Rattle.view.specs.Held.{forView, columnOr};
+ghost use Rattle.view.specs.Calls.{PlainAs, RowOfAs, OpensAs, RowAs, RowsAs};
 use format::Block;
 use format::Codec;
 use format::Column;
@@ -60,7 +57,7 @@ fn column_of(answer: Opened) -> Column
 
 // Opens a column for a view, under an acceptance sheet that the caller names.
 pub fn open_plain(sheet: u32, bytes: &[u8]) -> Opened
-    ensures { λ r. ⌜ openedMeaning r ≡ columnIn (viewedUnder sheet (now (bytes .entry))) ⌝ }
+    ensures { λ r. ⌜ PlainAs sheet (now (bytes .entry)) r ⌝ }
 {
     let answer = for_view(open_column::open_plain(bytes, 0));
     open_sheet::under(sheet, answer, bytes)
@@ -68,7 +65,7 @@ pub fn open_plain(sheet: u32, bytes: &[u8]) -> Opened
 
 // The value of a row of such a column, with its bytes: as with an empty table.
 pub fn row_of(column: Column, bytes: &[u8], row: u32) -> RowRead
-    ensures { λ r. ⌜ rowMeaning r ≡ rowAt column [] (now (bytes .entry)) row ⌝ }
+    ensures { λ r. ⌜ RowOfAs column (now (bytes .entry)) row r ⌝ }
 {
     let line = Line {
         slope: 0,
@@ -96,7 +93,7 @@ pub struct Opening<'a> {
 
 // Opens a view, under an acceptance sheet that the caller names.
 pub fn open<'a>(sheet: u32, bytes: &'a [u8]) -> Opening<'a>
-    ensures { λ r. ⌜ (openedMeaning (r .answer) ≡ columnIn (viewedUnder sheet (now (bytes .entry)))) × (r .view .bytes ≡ bytes .entry) × (r .view .column ≡ columnOr (columnIn (viewedUnder sheet (now (bytes .entry))))) ⌝ }
+    ensures { λ r. ⌜ OpensAs sheet (bytes .entry) r ⌝ }
 {
     let answer = open_plain(sheet, bytes);
     let column = column_of(answer);
@@ -108,14 +105,14 @@ pub fn open<'a>(sheet: u32, bytes: &'a [u8]) -> Opening<'a>
 
 // The value of a row of the view's column.
 pub fn row<'a>(view: View<'a>, row: u32) -> RowRead
-    ensures { λ r. ⌜ rowMeaning r ≡ rowAt (view .entry .column) [] (now (view .entry .bytes)) row ⌝ }
+    ensures { λ r. ⌜ RowAs (view .entry) row r ⌝ }
 {
     row_of(view.column, view.bytes, row)
 }
 
 // How many rows the view has: those of its column's window, which opening sets to the whole column.
 pub fn rows<'a>(view: View<'a>) -> u32
-    ensures { λ r. ⌜ r ≡ view .entry .column .window .rows ⌝ }
+    ensures { λ r. ⌜ RowsAs (view .entry) r ⌝ }
 {
     view.column.window.rows
 }

@@ -10,11 +10,10 @@ use Rattle.proof_walk.proofs.Whole.{calls, lands-at, ends, meets}
 use Rattle.format.specs.declared.Column.{Column}
 use Rattle.format.specs.declared.Opened.{Opened}
 use Rattle.format.specs.Refusals.{openedMeaning}
-use Rattle.format.specs.Opening.{columnIn}
-use Rattle.format.specs.Viewing.{viewedUnder}
 use Rattle.view.specs.declared.View.{View}
 use Rattle.view.specs.declared.Opening.{Opening}
 use Rattle.view.specs.Held.{columnOr}
+use Rattle.view.specs.Calls.{PlainAs}
 use Rattle.view.proofs.Types as Ty
 use Rattle.view.proofs.Opening as G
 use Rattle.view.proofs.Opening.Laws as G′
@@ -55,7 +54,7 @@ module _ {M : Type 1} (𝓤 : URA M) (H : Heap 𝓤) (A : Atoms 𝓤) (mem : Mem
       (λ κs a are. ((tt, record { fits = are .0 .1 }), ((tt, (tt, (record { fits = are .1 .0 .0 .1 .0 }, tt))), tt)))
       (λ κs qs bounds a g are ls. let sheet = a .0 in let bytes = a .1 .0 in let α = namedLft 1 0 tt κs in let β : NamedLft = record { mir = erased; lft = κs .0 } in let fm = fmOf 𝓤 H (W .laws) 𝓣 in
       copies ! 14 (κs .0) u8 bytes refl $ move ! (13 ∷ 14 ∷ 0 ∷ []) $
-      calls ! fm of.ended (of.clauses 𝓤 H A mem run) opens (κs, qs, tt, a, (uint-vals w32 sheet, (slice-vals bytes, tt))) tt (id⊢ 𝓤 _) (λ p _. openedMeaning p ≡ columnIn (viewedUnder sheet (bytes .now))) (λ _ _. id⊢ 𝓤 _) (Ty.opened .val) (Ty.opened .tells) refl
+      calls ! fm of.ended (of.clauses 𝓤 H A mem run) opens (κs, qs, tt, a, (uint-vals w32 sheet, (slice-vals bytes, tt))) tt (id⊢ 𝓤 _) (λ p _. PlainAs sheet (bytes .now) p) (λ _ _. id⊢ 𝓤 _) (Ty.opened .val) (Ty.opened .tells) refl
       (and-then ! (load ! (from ! (stop !)) (look ! 9 refl)) (and-then ! (load ! (from ! (stop !)) (look ! 7 refl)) (no-more !))) (λ p _ p-is p-fits. lands-at ! 4 refl (typed W Ty.opened p _ p-fits .0) $
       have ! Ty.opened p p-fits $ calls ! fm cf.ended (cf.clauses 𝓤 H A mem run) keeps (tt, tt, tt, (p, tt), (vals Ty.opened p, tt)) tt (id⊢ 𝓤 _) (λ c _. c ≡ columnOr (openedMeaning p)) (λ _ _. id⊢ 𝓤 _) (Ty.column .val) (Ty.column .tells) refl
       (and-then ! (load ! (from ! (stop !)) (look ! 5 refl)) (no-more !)) (λ c _ c-is c-fits. lands-at ! 2 refl (typed W Ty.column c _ c-fits .0) $

@@ -7,9 +7,8 @@ use Rattle.proof_walk.proofs.Data.{vals, have, typed}
 use Rattle.proof_walk.proofs.Locals.{filled, leaves}
 use Rattle.proof_walk.proofs.Whole.{calls, lands-at, field-of, ends, meets}
 use Rattle.view.proofs.Types as Ty
-use Rattle.format.specs.Refusals.{rowMeaning}
-use Rattle.format.specs.Reading.{rowAt}
 use Rattle.format.proofs.Column.Laws as C′
+use Rattle.view.specs.Calls.{RowAs}
 use Rattle.view.proofs.row_of as of
 use Rattle.view.proofs.row_of.Symbol as of-def
 use Rattle.view.proofs.row_of.Symbol.{name as #view·row-of}
@@ -35,7 +34,7 @@ module _ {M : Type 1} (𝓤 : URA M) (H : Heap 𝓤) (A : Atoms 𝓤) (mem : Mem
       move ! (11 ∷ []) $ use1 W (given (Ty.vval α d ∷ [] ≡ Ty.vval α d ∷ []) (‵ (all-own (Ty.view α .parts) (Ty.vlaws α) (d .bytes, (d .column, tt))))) (own-open 𝓤 H A W (Ty.view α) (Ty.vlaws α) (d .bytes, (d .column, tt)) (Ty.vval α d)) $ learn ! (λ _.
       use1 W (‵ (ownAt (Ty.view α .parts) (Ty.vlaws α) 0 (d .bytes)) ⊛ ‵ (rest (Ty.view α .parts) (Ty.vlaws α) 0 (d .bytes, (d .column, tt)))) (own-out 𝓤 H A W (Ty.view α .parts) (Ty.vlaws α) 0 (d .bytes, (d .column, tt))) $ split ! $ move ! (1 ∷ []) $ drop ! $
       have ! Ty.column (d .column) col $ move ! (12 ∷ 0 ∷ 1 ∷ 13 ∷ []) $
-      calls ! (fmOf 𝓤 H (W .laws) 𝓣) of.ended (of.clauses 𝓤 H A mem run) known (κs, qs, tt, (d .column, (d .bytes, (i, tt))), (vals Ty.column (d .column), (slice-vals (d .bytes), (uint-vals w32 i, tt)))) tt (id⊢ 𝓤 _) (λ r _. rowMeaning r ≡ rowAt (d .column) [] (d .bytes .now) i) (λ _ _. id⊢ 𝓤 _) (Ty.answer .val) (Ty.answer .tells) refl
+      calls ! (fmOf 𝓤 H (W .laws) 𝓣) of.ended (of.clauses 𝓤 H A mem run) known (κs, qs, tt, (d .column, (d .bytes, (i, tt))), (vals Ty.column (d .column), (slice-vals (d .bytes), (uint-vals w32 i, tt)))) tt (id⊢ 𝓤 _) (λ r _. RowAs d i r) (λ _ _. id⊢ 𝓤 _) (Ty.answer .val) (Ty.answer .tells) refl
       (and-then ! (load ! (from ! (stop !)) (look ! 3 refl)) (and-then ! (load ! (from ! (stop !)) (look ! 1 refl)) (and-then ! (load ! (from ! (stop !)) (look ! 5 refl)) (no-more !)))) (λ r _ r-is r-fits. lands-at ! 8 refl (typed W Ty.answer r _ r-fits .0) $
       returns ! (look ! 8 refl) $ leaves ! (filled 5 _) refl $ have ! Ty.answer r r-fits $ move ! (2 ∷ 3 ∷ 4 ∷ 0 ∷ []) $
       ends ! f.ended (f.clauses 𝓤 H A mem run) κs qs a g (Ty.answer .val r) r (tt, (tt, tt)) (factI 𝓤 _ (emp 𝓤) r-is) _ refl)))
