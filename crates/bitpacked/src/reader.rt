@@ -17,7 +17,6 @@ use format::Head;
 use format::Opened;
 use format::Refusal;
 use format::RowRead;
-use format::Window;
 
 // The column of a head: its area comes behind it, at the width of the count.
 pub fn load(bytes: &[u8], head: Head) -> Opened
@@ -29,20 +28,7 @@ pub fn load(bytes: &[u8], head: Head) -> Opened
         return Opened::Refused(Refusal::AreaShort);
     }
     let spelling = head.spelling;
-    let window = Window {
-        first: 0,
-        rows: head.rows,
-    };
-    let column = Column {
-        minimum: head.minimum,
-        gcd: head.gcd,
-        count: head.count,
-        rows: head.rows,
-        start: head.next,
-        size,
-        window,
-        codec: Codec::Bitpacked,
-    };
+    let column = head.column(head.next, size, Codec::Bitpacked);
     Opened::Column(column, spelling)
 }
 

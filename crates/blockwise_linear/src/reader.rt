@@ -15,13 +15,11 @@ ghost use Rattle.line.specs.Meaning.{fieldsMeaning};
 ghost use Rattle.blockwise_linear.specs.Reader.{stepMeaning, areaMeaning, lastMeaning, lastIn, upToLength, stepIn, blocksFrom, areaIn, columnOver, firstCursor, Small, Good};
 use format::Block;
 use format::Codec;
-use format::Column;
 use format::Head;
 use format::Line;
 use format::Opened;
 use format::Refusal;
 use format::Spelling;
-use format::Window;
 use line::FieldsRead;
 
 // A block of a table that has none.
@@ -191,20 +189,7 @@ fn loaded(head: Head, size: usize, spelling: Spelling, footer: usize) -> Opened
     if !word::ends_within(head.next, size, footer) {
         return Opened::Refused(Refusal::AreaShort);
     }
-    let window = Window {
-        first: 0,
-        rows: head.rows,
-    };
-    let column = Column {
-        minimum: head.minimum,
-        gcd: head.gcd,
-        count: head.count,
-        rows: head.rows,
-        start: head.next,
-        size,
-        window,
-        codec: Codec::Blockwise,
-    };
+    let column = head.column(head.next, size, Codec::Blockwise);
     let first = head.spelling;
     Opened::Column(column, first.or_later(spelling))
 }

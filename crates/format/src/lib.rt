@@ -4,6 +4,7 @@
 ghost use mathlib.Core.Path.{_≡_};
 ghost use lib.ListN.{getD};
 ghost use Rattle.format.specs.Refusals.{paper};
+ghost use Rattle.format.specs.Opening.{columnOf};
 ghost use Rattle.format.specs.Varint.{firstOf};
 
 // Why a call refuses: a case for each number, with what it also returns (specs/Refusals.antt has the table).
@@ -184,6 +185,28 @@ pub struct Head {
     pub rows: u32,
     pub next: usize,
     pub spelling: Spelling,
+}
+
+impl Head {
+    // The column of a head, with its area and its codec. Its window is the whole column.
+    pub fn column(self, start: usize, size: usize, codec: Codec) -> Column
+        ensures { λ r. ⌜ r ≡ columnOf self start size codec ⌝ }
+    {
+        let window = Window {
+            first: 0,
+            rows: self.rows,
+        };
+        Column {
+            minimum: self.minimum,
+            gcd: self.gcd,
+            count: self.count,
+            rows: self.rows,
+            start,
+            size,
+            window,
+            codec,
+        }
+    }
 }
 
 // A line and a width that were read, the offset behind them, and how the line is spelled.

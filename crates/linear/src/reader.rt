@@ -20,7 +20,6 @@ use format::Line;
 use format::Opened;
 use format::Refusal;
 use format::RowRead;
-use format::Window;
 use line::FieldsRead;
 
 // The column of a head: the line and the width come behind it, and then the area.
@@ -36,20 +35,7 @@ pub fn load(bytes: &[u8], head: Head) -> Opened
         return Opened::Refused(Refusal::AreaShort);
     }
     let line = fields.line;
-    let window = Window {
-        first: 0,
-        rows: head.rows,
-    };
-    let column = Column {
-        minimum: head.minimum,
-        gcd: head.gcd,
-        count: head.count,
-        rows: head.rows,
-        start: fields.next,
-        size,
-        window,
-        codec: Codec::Linear(line, fields.bits),
-    };
+    let column = head.column(fields.next, size, Codec::Linear(line, fields.bits));
     let first = head.spelling;
     let second = fields.spelling;
     Opened::Column(column, first.or_later(second))

@@ -45,9 +45,14 @@ returns : tie.Need-returns
 unfolding openBitpacked
 returns c = rw (test-is (c .before) ∙ not-true _ (c .if1 .taken))
 
+column-requires : tie.Need-column-requires
+column-requires c κs = search needs
+
 returns-2 : tie.Need-returns-2
 unfolding openBitpacked
-returns-2 c = rw (test-is (c .before) ∙ not-false _ (c .if1 .left), size-is (c .before .before))
+returns-2 c =
+    let f = c .before in
+    rw (test-is (f .before) ∙ not-false _ (f .if1 .left), c .column .ensures, size-is (f .before .before))
 
 pub load-spec : {M : Type 1} → statement M
 load-spec =
@@ -58,4 +63,5 @@ load-spec =
     packed-len-requires
     ends-within-requires
     returns
+    column-requires
     returns-2)

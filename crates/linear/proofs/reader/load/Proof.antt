@@ -67,15 +67,18 @@ returns-2 : tie.Need-returns-2
 unfolding openLinear
 returns-2 c = rw (fields-told (c .before .before .before .before), test-is (c .before) ∙ not-true _ (c .if1 .taken))
 
+column-requires : tie.Need-column-requires
+column-requires c κs = search needs
+
 or-later-requires : tie.Need-or-later-requires
 or-later-requires c κs = search needs
 
 returns-3 : tie.Need-returns-3
 unfolding openLinear
 returns-3 c =
-    let f = c .before .before in
+    let f = c .before .before .before in
     let e = f .before in
-    rw (fields-told (e .before .before .before), test-is e ∙ not-false _ (f .if1 .left), e .before .packed-len .ensures, c .or-later .ensures)
+    rw (fields-told (e .before .before .before), test-is e ∙ not-false _ (f .if1 .left), c .before .column .ensures, e .before .packed-len .ensures, c .or-later .ensures)
 
 pub load-spec : {M : Type 1} → statement M
 load-spec =
@@ -89,5 +92,6 @@ load-spec =
     packed-len-requires
     ends-within-requires
     returns-2
+    column-requires
     or-later-requires
     returns-3)
