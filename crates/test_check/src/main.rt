@@ -3,7 +3,7 @@
 ghost use Prim.Native.Nat.{_<_};
 ghost use lib.ListN.{length};
 use libc::STDOUT_FILENO;
-use test_cases::length_at;
+use tool_files::cases::length_at;
 
 // Writes a title, and the verdict on a column.
 fn show(title: &[u8], sheet: &[u8], bytes: &[u8], listed: &[u8]) {
@@ -51,7 +51,7 @@ fn show_all(file: &[u8]) {
 }
 
 fn main() {
-    let mut file = test_cases::room();
+    let mut file = tool_files::cases::room();
     let n = tool_files::read_named(1, &mut file);
     show_all(&file[..n]);
 }

@@ -7,11 +7,11 @@ ghost use Rattle.text_column.specs.Own.{Owned};
 use format::Window;
 use format::WindowRow;
 use libc::STDOUT_FILENO;
-use test_cases::length_at;
 use text_column::own::Narrowed;
 use text_column::own::Own;
 use text_compare::Begun;
 use text_compare::Compared;
+use tool_files::cases::length_at;
 
 // The windows of the two sides.
 struct Windows {
@@ -111,7 +111,7 @@ fn show_all(file: &[u8]) {
 }
 
 fn main() {
-    let mut file = test_cases::room();
+    let mut file = tool_files::cases::room();
     let n = tool_files::read_named(1, &mut file);
     show_all(&file[..n]);
 }

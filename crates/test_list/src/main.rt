@@ -4,9 +4,9 @@ ghost use lib.ListN.{length};
 ghost use Rattle.text_column.specs.Own.{Owned};
 use format::WindowRow;
 use libc::STDOUT_FILENO;
-use test_cases::length_at;
 use text_column::own::Own;
 use text_list::Begun;
+use tool_files::cases::length_at;
 
 // Internal: asks for a column that was opened of these bytes. Writes the lines of the rows from `from` on for which a small buffer has room, and returns how many rows they are.
 fn show_rows(own: Own, bytes: &[u8], from: u32) -> u32
@@ -67,7 +67,7 @@ fn show_all(file: &[u8]) {
 }
 
 fn main() {
-    let mut file = test_cases::room();
+    let mut file = tool_files::cases::room();
     let n = tool_files::read_named(1, &mut file);
     show_all(&file[..n]);
 }

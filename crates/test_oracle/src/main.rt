@@ -7,7 +7,6 @@ use format::Checked;
 use format::Kind;
 use format::Written;
 use libc::STDOUT_FILENO;
-use test_cases::length_at;
 use text::lines::named_line;
 
 // The longest list, the longest column, and the blocks of such a list.
@@ -147,7 +146,7 @@ fn show_all(file: &[u8]) {
 }
 
 fn main() {
-    let mut file = test_cases::room();
+    let mut file = tool_files::cases::room();
     let n = tool_files::read_named(1, &mut file);
     show_all(&file[..n]);
 }

@@ -7,10 +7,10 @@ use format::Column;
 use format::Opened;
 use format::RowRead;
 use libc::STDOUT_FILENO;
-use test_cases::length_at;
 use text::lines::named_line;
 use text::lines::pair_line;
 use text::lines::refused_line;
+use tool_files::cases::length_at;
 
 // What a view of some bytes answers: its opening, its row count, and a row.
 struct Asked {
@@ -163,7 +163,7 @@ fn show_all(file: &[u8]) {
 }
 
 fn main() {
-    let mut file = test_cases::room();
+    let mut file = tool_files::cases::room();
     let n = tool_files::read_named(1, &mut file);
     show_all(&file[..n]);
 }

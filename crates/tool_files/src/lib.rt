@@ -1,4 +1,6 @@
 // Standard input, and files that a program's arguments name.
+pub mod cases;
+
 ghost use mathlib.Core.Path.{_≡_};
 ghost use lib.ListN.{length};
 ghost use Rattle.io.specs.Counts.{Counts};

@@ -1,9 +1,9 @@
--- `test_cases::room` meets its contract.
+-- `tool_files::cases::room` meets its contract.
 -- Assumes nothing.
 use Prim.Native.Nat.{ℕ}
 use lib.ListN.{length-replicate}
-use Rattle.test_cases.proofs.room.Statement.{statement}
-use Rattle.test_cases.proofs.room.Tie as tie
+use Rattle.tool_files.proofs.cases.room.Statement.{statement}
+use Rattle.tool_files.proofs.cases.room.Tie as tie
 
 returns : tie.Need-returns
 returns c = length-replicate {A = ℕ} 524288 0

@@ -2,7 +2,7 @@
 ghost use mathlib.Core.Path.{_≡_};
 ghost use Prim.Native.Nat.{_+_, _^_, _≤_, _<_};
 ghost use lib.ListN.{length};
-ghost use Rattle.test_cases.specs.Lengths.{fourBytes, lengthAt};
+ghost use Rattle.tool_files.specs.Lengths.{fourBytes, lengthAt};
 
 // Room for a file of cases, as long as they come.
 pub fn room() -> [u8; 524288]
