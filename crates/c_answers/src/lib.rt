@@ -4,19 +4,17 @@ pub mod checks;
 pub mod differs;
 pub mod replays;
 
-ghost use Rattle.format.specs.Refusals.{statedMeaning, writtenMeaning, openedMeaning, rowMeaning, foundMeaning, runMeaning};
+ghost use Rattle.format.specs.Refusals.{statedMeaning, storedMeaning, openedMeaning, rowMeaning};
 ghost use Rattle.c_numbers.specs.Numbers.{after, madeMeaning, Answers, Describes, Narrows, States};
 use c_numbers::ACCEPTED;
 use c_numbers::Made;
 use c_numbers::column_numbers;
 use c_numbers::longer;
 use c_numbers::told;
-use format::Found;
 use format::Opened;
 use format::RowRead;
-use format::RunRead;
 use format::Stated;
-use format::Written;
+use format::Stored;
 
 // What was stated: minimum, maximum, gcd, rows.
 pub fn stats_told(answer: Stated, stats: &mut [u64; 4], refusal: &mut [u64; 2])
@@ -34,15 +32,15 @@ pub fn stats_told(answer: Stated, stats: &mut [u64; 4], refusal: &mut [u64; 2])
 }
 
 // The length of what was written, 0 on refusal.
-pub fn length_told(answer: Written, refusal: &mut [u64; 2]) -> usize
-    ensures { λ r. ⌜ Answers (writtenMeaning answer) r (now (refusal .exit)) ⌝ }
+pub fn length_told(answer: Stored, refusal: &mut [u64; 2]) -> usize
+    ensures { λ r. ⌜ Answers (storedMeaning answer) r (now (refusal .exit)) ⌝ }
 {
     match answer {
-        Written::Length(n) => {
+        Stored::Entries(n) => {
             *refusal = ACCEPTED;
             n
         }
-        Written::Refused(q) => {
+        Stored::Refused(q) => {
             *refusal = told(q);
             0
         }
@@ -101,40 +99,20 @@ pub fn row_told(made: Made, answer: RowRead, refusal: &mut [u64; 2]) -> u64
     }
 }
 
-// How many of its rows were found, 0 on refusal.
-pub fn found_told(made: Made, answer: Found, refusal: &mut [u64; 2]) -> usize
-    ensures { λ r. ⌜ Answers (after (madeMeaning made) (foundMeaning answer)) r (now (refusal .exit)) ⌝ }
+// How many entries were stored, rows that were found or values, 0 on refusal.
+pub fn entries_told(made: Made, answer: Stored, refusal: &mut [u64; 2]) -> usize
+    ensures { λ r. ⌜ Answers (after (madeMeaning made) (storedMeaning answer)) r (now (refusal .exit)) ⌝ }
 {
     if let Made::Refused(q) = made {
         *refusal = told(q);
         return 0;
     }
     match answer {
-        Found::Rows(n) => {
+        Stored::Entries(n) => {
             *refusal = ACCEPTED;
             n
         }
-        Found::Refused(q) => {
-            *refusal = told(q);
-            0
-        }
-    }
-}
-
-// How many of its values were decoded, 0 on refusal.
-pub fn run_told(made: Made, answer: RunRead, refusal: &mut [u64; 2]) -> usize
-    ensures { λ r. ⌜ Answers (after (madeMeaning made) (runMeaning answer)) r (now (refusal .exit)) ⌝ }
-{
-    if let Made::Refused(q) = made {
-        *refusal = told(q);
-        return 0;
-    }
-    match answer {
-        RunRead::Values(n) => {
-            *refusal = ACCEPTED;
-            n
-        }
-        RunRead::Refused(q) => {
+        Stored::Refused(q) => {
             *refusal = told(q);
             0
         }

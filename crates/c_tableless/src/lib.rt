@@ -2,7 +2,7 @@
 ghost use mathlib.Core.Path.{_≡_};
 ghost use Prim.Native.Nat.{_/_};
 ghost use lib.ListN.{length, getD};
-ghost use Rattle.format.specs.Calls.{SerializedAs};
+ghost use Rattle.format.specs.Calls.{StoredAs};
 ghost use Rattle.format.specs.Refusals.{statedMeaning};
 ghost use Rattle.format.specs.Word.{modAdd};
 ghost use Rattle.c_numbers.specs.Numbers.{madeMeaning, Answers};
@@ -18,8 +18,8 @@ use c_numbers::kinds::kind_from;
 use format::Block;
 use format::Narrowed;
 use format::Stated;
+use format::Stored;
 use format::WindowRow;
-use format::Written;
 
 // The statistics of the numbers that a list of values of a kind is stored as.
 pub fn stated(kind: u32, values: &[u64]) -> Stated
@@ -32,12 +32,12 @@ pub fn stated(kind: u32, values: &[u64]) -> Stated
 }
 
 // Writes such a list as a column by one of the listed codecs.
-pub fn written(kind: u32, values: &[u64], codecs: &[u8], out: &mut [u8]) -> Written
-    ensures { λ r. ⌜ SerializedAs (writtenFrom kind (now (values .entry)) (now (codecs .entry)) (length (now (out .entry)))) r (now (out .entry)) (now (out .exit)) ⌝ }
+pub fn written(kind: u32, values: &[u64], codecs: &[u8], out: &mut [u8]) -> Stored
+    ensures { λ r. ⌜ StoredAs (writtenFrom kind (now (values .entry)) (now (codecs .entry)) (length (now (out .entry)))) r (now (out .entry)) (now (out .exit)) ⌝ }
 {
     match kind_from(kind) {
         Known::Kind(known) => u64_based::serialize_as(known, values, codecs, out),
-        Known::Refused(q) => Written::Refused(q),
+        Known::Refused(q) => Stored::Refused(q),
     }
 }
 

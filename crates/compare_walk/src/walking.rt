@@ -1,12 +1,10 @@
 // A search for the first difference under way: a turn looks at one chunk, which comes with its two blocks, whoever has the tables.
 ghost use mathlib.Core.Path.{_≡_};
-ghost use mathlib.Core.List.{List};
 ghost use Prim.Native.Nat.{ℕ, _+_, _-_, _/_, _%_, _^_, _≤_, _<_, max};
-ghost use lib.ListN.{length};
 ghost use Rattle.format.specs.Outcome.{Outcome};
-ghost use Rattle.format.specs.Reading.{columnRow, blockAt, rowAt};
+ghost use Rattle.format.specs.Reading.{columnRow};
 ghost use Rattle.compare_walk.specs.Equal.{sideRow, EqualFor};
-ghost use Rattle.compare_walk.specs.Walking.{Same, toGo, onwards, UnderWay, OnHand, Seeking};
+ghost use Rattle.compare_walk.specs.Walking.{Same, toGo, onwards, UnderWay, OnHand, Seeking, Keeps};
 use crate::Difference;
 use crate::equal::Looked;
 use crate::equal::Side;
@@ -92,7 +90,7 @@ pub fn step(
     w: Walk,
 ) -> Walk
     requires { ⌜ UnderWay (max (left .window .rows) (right .window .rows)) w ⌝ }
-    ensures { λ r. ⌜ ((ltable rtable : List Block) (from : ℕ) → lblocks ≡ length ltable → lblock ≡ blockAt ltable (columnRow left (w .at) % 2 ^ 32 / 512) → rblocks ≡ length rtable → rblock ≡ blockAt rtable (columnRow right (w .at) % 2 ^ 32 / 512) → Seeking (rowAt left ltable (now (lbytes .entry))) (rowAt right rtable (now (rbytes .entry))) (max (left .window .rows) (right .window .rows)) from w → Seeking (rowAt left ltable (now (lbytes .entry))) (rowAt right rtable (now (rbytes .entry))) (max (left .window .rows) (right .window .rows)) from r) ⌝ }
+    ensures { λ r. ⌜ Keeps left lblocks lblock (now (lbytes .entry)) right rblocks rblock (now (rbytes .entry)) w r ⌝ }
     ensures { λ r. ⌜ toGo r < toGo w ⌝ }
 {
     let l = Side {

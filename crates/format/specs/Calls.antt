@@ -4,12 +4,10 @@ use Prim.Native.Nat.{ℕ}
 use mathlib.Core.Path.{_≡_}
 use mathlib.Core.List.{List}
 use Rattle.format.specs.declared.Block.{Block}
-use Rattle.format.specs.declared.Found.{Found}
+use Rattle.format.specs.declared.Stored.{Stored}
 use Rattle.format.specs.declared.Opened.{Opened}
-use Rattle.format.specs.declared.RunRead.{RunRead}
-use Rattle.format.specs.declared.Written.{Written}
 use Rattle.format.specs.Outcome.{Outcome, howMany, stored}
-use Rattle.format.specs.Refusals.{openedMeaning, foundMeaning, runMeaning, writtenMeaning}
+use Rattle.format.specs.Refusals.{openedMeaning, storedMeaning}
 use Rattle.format.specs.Opening.{Loaded, columnIn, tableIn}
 
 -- of a call that stores a list and says how many entries it has
@@ -17,17 +15,9 @@ pub record StoresAs (o : Outcome (List ℕ)) (said : Outcome ℕ) (before after 
   pub answer : said ≡ howMany o
   pub list : after ≡ stored o before
 
--- of writing: the column stands at the output's front
-abbrev pub SerializedAs : Outcome (List ℕ) → Written → (before after : List ℕ) → Type 0
-SerializedAs o r before after = StoresAs o (writtenMeaning r) before after
-
--- of looking up: the rows stand in the list
-abbrev pub FoundAs : Outcome (List ℕ) → Found → (before after : List ℕ) → Type 0
-FoundAs o r before after = StoresAs o (foundMeaning r) before after
-
--- of a run: the values fill the list
-abbrev pub RunAs : Outcome (List ℕ) → RunRead → (before after : List ℕ) → Type 0
-RunAs o r before after = StoresAs o (runMeaning r) before after
+-- the same by the call's answer: of writing, of looking rows up, of a run
+abbrev pub StoredAs : Outcome (List ℕ) → Stored → (before after : List ℕ) → Type 0
+StoredAs o r before after = StoresAs o (storedMeaning r) before after
 
 -- of opening: the blocks stand in the table
 pub record OpenedAs (o : Outcome Loaded) (r : Opened) (before after : List Block) : Type 0 where

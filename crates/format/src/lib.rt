@@ -259,12 +259,6 @@ pub enum Stated {
     Refused(Refusal),
 }
 
-// Writing: the length of the column that now stands in the output.
-pub enum Written {
-    Length(usize),
-    Refused(Refusal),
-}
-
 // Opening: the column, and how its numbers are spelled; its blocks stand in the lent table.
 pub enum Opened {
     Column(Column, Spelling),
@@ -301,15 +295,9 @@ pub enum FloatRead {
     Refused(Refusal),
 }
 
-// Looking rows up: how many now stand in the lent list.
-pub enum Found {
-    Rows(usize),
-    Refused(Refusal),
-}
-
-// Decoding a run of rows: how many values now stand in the lent list, which they fill.
-pub enum RunRead {
-    Values(usize),
+// Storing a list, as writing, looking rows up and decoding a run do: how many entries now stand at the front of what was lent.
+pub enum Stored {
+    Entries(usize),
     Refused(Refusal),
 }
 

@@ -19,10 +19,9 @@ ghost use Rattle.c_numbers.specs.Numbers.{Answers, Narrows, States};
 ghost use Rattle.c_tableless.specs.Calls.{narrowedFrom};
 ghost use Rattle.hulemartob.specs.Calls.{rowFrom, foundFrom, runFrom, Lists, Loads};
 use c_answers::column_told;
-use c_answers::found_told;
+use c_answers::entries_told;
 use c_answers::length_told;
 use c_answers::open_told;
-use c_answers::run_told;
 use c_answers::stats_told;
 use c_numbers::column_from;
 use c_numbers::column_of;
@@ -134,7 +133,7 @@ pub extern "C" fn hulemartob_lookup(
     let made = column_from(column);
     let opened = column_of(made);
     let answer = table::lookup(opened, table, bytes, low, high, first, end, found);
-    found_told(made, answer, refusal)
+    entries_told(made, answer, refusal)
 }
 
 // How many values were decoded, 0 on refusal: those of the rows from `first` on, as many as `out` has entries, which they fill.
@@ -152,5 +151,5 @@ pub extern "C" fn hulemartob_run(
     let made = column_from(column);
     let opened = column_of(made);
     let answer = table::run(opened, table, bytes, first, out);
-    run_told(made, answer, refusal)
+    entries_told(made, answer, refusal)
 }

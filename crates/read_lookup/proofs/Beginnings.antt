@@ -16,7 +16,7 @@ use Rattle.format.specs.Runs.{readRun}
 use Rattle.read_chunk.specs.Rows.{rowsAmong}
 use Rattle.read_chunk.proofs.Rows.{all-run, all-refused, rows-run}
 use Rattle.read_walk.specs.declared.Walk.{Walk}
-use Rattle.read_walk.specs.declared.Walked.the-variants.{Entries}
+use Rattle.format.specs.declared.Stored.the-variants.{Entries}
 use Rattle.read_walk.specs.Walks.{Kept.rowsOf, kept, walked, Walking}
 
 module _ (read : ℕ → Outcome ℕ) (test : ℕ → Bool) where

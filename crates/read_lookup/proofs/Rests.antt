@@ -25,10 +25,12 @@ use Rattle.read_chunk.specs.Rows.{rowsAmong}
 use Rattle.read_chunk.proofs.Copies.{CopiedTo, copy-more, copy-ends}
 use Rattle.read_chunk.proofs.Rows.{rows-few, rows-joined}
 use Rattle.read_lookup.specs.Rests.{rowsFrom, DoneAs}
+use Rattle.format.specs.Calls.{StoredAs}
+use Rattle.format.specs.Refusals.{storedMeaning}
 use Rattle.read_walk.specs.declared.Walk.{Walk}
-use Rattle.read_walk.specs.declared.Walked.{Walked}
-use Rattle.read_walk.specs.declared.Walked.the-variants.{Entries}
-use Rattle.read_walk.specs.Walks.{Kept.rowsOf, kept, walkedMeaning, WalkedAs, InPass, Going, left}
+use Rattle.format.specs.declared.Stored.{Stored}
+use Rattle.format.specs.declared.Stored.the-variants.{Entries}
+use Rattle.read_walk.specs.Walks.{Kept.rowsOf, kept, InPass, Going, left}
 use Rattle.read_walk.proofs.Walking.{nothing, more-stored}
 
 -- ---- rows one after the other
@@ -126,7 +128,7 @@ module _ (test : ℕ → Bool) (read : ℕ → Outcome ℕ) {window : Window} {o
 
   module _ (total : ℕ) (storing : w .storing ≡ true) (many : 512 < w .end - w .first) (answer : w .answer ≡ Entries total) where
     known : value total ≡ howMany o
-    known = ap walkedMeaning (sym answer) ∙ f .sized storing many
+    known = ap storedMeaning (sym answer) ∙ f .sized storing many
 
     rest : Rest total
     rest =
@@ -154,13 +156,13 @@ module _ (test : ℕ → Bool) (read : ℕ → Outcome ℕ) {window : Window} {o
         let us = rowsAmong test (w .first) (f .values) in
         more-stored true before list us (rowsAmong test (w .at) (rest .values)) (w .n) (f .count) (f .list-is ∙ ap (λ (t : Bool). pick t (sets before 0 us) before) storing)
 
-    finds : WalkedAs o (w .answer) before (sets list (w .n) (rowsAmong test (w .at) (rest .values)))
+    finds : StoredAs o (w .answer) before (sets list (w .n) (rowsAmong test (w .at) (rest .values)))
     finds = record { answer = f .sized storing many; list = stored-all ∙ sym (ap (λ (x : Outcome (List ℕ)). stored x before) (rest .is)) }
 
-    pub told-done : total ≤ w .n → WalkedAs o (w .answer) before list
+    pub told-done : total ≤ w .n → StoredAs o (w .answer) before list
     told-done h = let z : rowsAmong test (w .at) (rest .values) ≡ [] = nothing _ (omega (arith, rest .sum)) in rw z at finds
 
-    pub told-all : total - w .n ≡ w .end - w .at → WalkedAs o (w .answer) before (sets list (w .n) (rowsFrom (w .at) (total - w .n)))
+    pub told-all : total - w .n ≡ w .end - w .at → StoredAs o (w .answer) before (sets list (w .n) (rowsFrom (w .at) (total - w .n)))
     told-all h =
         let many : length (rowsAmong test (w .at) (rest .values)) ≡ length (rest .values) = omega (arith, rest .sum, rest .long) in
         let all : rowsAmong test (w .at) (rest .values) ≡ rowsFrom (w .at) (total - w .n) = all-pass test (w .at) (rest .values) many ∙ ap (rowsFrom (w .at)) (rest .long ∙ sym h) in
@@ -176,9 +178,9 @@ trims-left w g e t = rw (g .on, e) (by-pass t)
 
 -- ---- what a test says
 
-module _ {done : Bool} {o : Outcome (List ℕ)} {answer : Walked} {before old new : List ℕ} (f : DoneAs done o answer before old new) where
-  pub is-done : done ≡ true → WalkedAs o answer before new
-  is-done e = when (WalkedAs o answer before new) (new ≡ old) done e (f .either)
+module _ {done : Bool} {o : Outcome (List ℕ)} {answer : Stored} {before old new : List ℕ} (f : DoneAs done o answer before old new) where
+  pub is-done : done ≡ true → StoredAs o answer before new
+  is-done e = when (StoredAs o answer before new) (new ≡ old) done e (f .either)
 
   pub not-done : done ≡ false → new ≡ old
-  not-done e = unless (WalkedAs o answer before new) (new ≡ old) done e (f .either)
+  not-done e = unless (StoredAs o answer before new) (new ≡ old) done e (f .either)

@@ -5,8 +5,8 @@ use mathlib.Core.Path.{_≡_}
 use mathlib.Core.Bool.{Bool}
 use mathlib.Core.List.{List, [], _∷_}
 use Rattle.format.specs.Outcome.{Outcome, pick}
-use Rattle.read_walk.specs.declared.Walked.{Walked}
-use Rattle.read_walk.specs.Walks.{WalkedAs}
+use Rattle.format.specs.declared.Stored.{Stored}
+use Rattle.format.specs.Calls.{StoredAs}
 
 -- n rows, one after the other, from r on
 unfoldable pub rowsFrom : (r n : ℕ) → List ℕ
@@ -14,5 +14,5 @@ rowsFrom r zero = []
 rowsFrom r (suc n) = r ∷ rowsFrom (suc r) n
 
 -- a lookup that is to find o is done, with an answer, or the list is left as it was
-pub record DoneAs (done : Bool) (o : Outcome (List ℕ)) (answer : Walked) (before old new : List ℕ) : Type 0 where
-  pub either : pick done (WalkedAs o answer before new) (new ≡ old)
+pub record DoneAs (done : Bool) (o : Outcome (List ℕ)) (answer : Stored) (before old new : List ℕ) : Type 0 where
+  pub either : pick done (StoredAs o answer before new) (new ≡ old)

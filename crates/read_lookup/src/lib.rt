@@ -2,27 +2,24 @@
 ghost use mathlib.Core.Path.{_≡_};
 ghost use mathlib.Core.Bool.{Bool, true};
 ghost use mathlib.Core.List.{List};
-ghost use Prim.Native.Nat.{ℕ, _+_, _-_, _/_, _%_, _^_, _≤_, _<_};
+ghost use Prim.Native.Nat.{ℕ, _+_, _-_, _%_, _^_, _≤_, _<_};
 ghost use lib.ListN.{length, take};
 ghost use lib.Seq.{sets};
 ghost use Rattle.format.specs.Outcome.{Outcome, pick};
 ghost use Rattle.format.specs.Word.{AllBelow};
 ghost use Rattle.format.specs.Lookup.{lookedUp, within};
-ghost use Rattle.format.specs.Reading.{blockAt, rowAt};
-ghost use Rattle.format.specs.Calls.{FoundAs};
 ghost use Rattle.read_chunk.specs.Rows.{rowsAmong};
 ghost use Rattle.read_lookup.specs.Counts.{OutsideOf};
 ghost use Rattle.read_lookup.specs.Rests.{rowsFrom, DoneAs};
-ghost use Rattle.read_walk.specs.declared.Walked.the-variants.{Entries};
-ghost use Rattle.read_walk.specs.Walks.{Kept.rowsOf, WalkedAs, nextChunk, Going, left, InPass, Walking};
+ghost use Rattle.format.specs.declared.Stored.the-variants.{Entries};
+ghost use Rattle.read_walk.specs.Walks.{Kept.rowsOf, nextChunk, Going, left, InPass, Walking, Keeps};
 use format::Block;
 use format::Column;
-use format::Found;
+use format::Stored;
 use format::Window;
 use format::WindowRow;
 use read_chunk::cut;
 use read_walk::Walk;
-use read_walk::Walked;
 
 // One more than `n` if a value lies in the range: if it lies no further above the low end than the high end does, modulo 2^64, which is one comparison and no branch.
 fn tallied(n: usize, low: u64, high: u64, value: u64) -> usize
@@ -156,7 +153,7 @@ pub fn begin(window: Window, first: u32, end: u32) -> Walk
         n: 0,
         storing: false,
         going: first < last,
-        answer: Walked::Entries(0),
+        answer: Stored::Entries(0),
     }
 }
 
@@ -194,7 +191,7 @@ fn step_through(
     found: &mut [u32],
 ) -> Walk
     requires { ⌜ Going w × (w .base ≡ column .window .first) × (w .end ≤ column .window .rows) × (length (now values) ≡ nextChunk w) ⌝ }
-    ensures { λ r. ⌜ ((table : List Block) (before : List ℕ) (o : Outcome (List ℕ)) → blocks ≡ length table → block ≡ blockAt table ((w .base + w .at) % 2 ^ 32 / 512) → Walking (rowsOf (within low high)) (rowAt column table (now (bytes .entry))) (column .window) o before w (now (found .entry)) → Walking (rowsOf (within low high)) (rowAt column table (now (bytes .entry))) (column .window) o before r (now (found .exit))) ⌝ }
+    ensures { λ r. ⌜ Keeps (rowsOf (within low high)) column blocks block (now (bytes .entry)) w r (now (found .entry)) (now (found .exit)) ⌝ }
     ensures { λ r. ⌜ left r < left w ⌝ }
 {
     let size = values.len();
@@ -217,7 +214,7 @@ fn step_reading(
     found: &mut [u32],
 ) -> Walk
     requires { ⌜ Going w × (w .base ≡ column .window .first) × (w .end ≤ column .window .rows) ⌝ }
-    ensures { λ r. ⌜ ((table : List Block) (before : List ℕ) (o : Outcome (List ℕ)) → blocks ≡ length table → block ≡ blockAt table ((w .base + w .at) % 2 ^ 32 / 512) → Walking (rowsOf (within low high)) (rowAt column table (now (bytes .entry))) (column .window) o before w (now (found .entry)) → Walking (rowsOf (within low high)) (rowAt column table (now (bytes .entry))) (column .window) o before r (now (found .exit))) ⌝ }
+    ensures { λ r. ⌜ Keeps (rowsOf (within low high)) column blocks block (now (bytes .entry)) w r (now (found .entry)) (now (found .exit)) ⌝ }
     ensures { λ r. ⌜ left r < left w ⌝ }
 {
     let mut buffer = [0u64; 512];
@@ -318,8 +315,8 @@ fn is_told(w: Walk, found: &mut [u32]) -> bool
     }
     let answer = w.answer;
     match answer {
-        Walked::Entries(total) => is_done(w, total, found),
-        Walked::Refused(_) => false,
+        Stored::Entries(total) => is_done(w, total, found),
+        Stored::Refused(_) => false,
     }
 }
 
@@ -335,7 +332,7 @@ pub fn step(
     found: &mut [u32],
 ) -> Walk
     requires { ⌜ Going w × (w .base ≡ column .window .first) × (w .end ≤ column .window .rows) ⌝ }
-    ensures { λ r. ⌜ ((table : List Block) (before : List ℕ) (o : Outcome (List ℕ)) → blocks ≡ length table → block ≡ blockAt table ((w .base + w .at) % 2 ^ 32 / 512) → Walking (rowsOf (within low high)) (rowAt column table (now (bytes .entry))) (column .window) o before w (now (found .entry)) → Walking (rowsOf (within low high)) (rowAt column table (now (bytes .entry))) (column .window) o before r (now (found .exit))) ⌝ }
+    ensures { λ r. ⌜ Keeps (rowsOf (within low high)) column blocks block (now (bytes .entry)) w r (now (found .entry)) (now (found .exit)) ⌝ }
     ensures { λ r. ⌜ left r < left w ⌝ }
 {
     if is_told(w, found) {
@@ -353,15 +350,4 @@ pub fn step(
         trimmed(w, room),
         found,
     )
-}
-
-// What a lookup that is over found.
-pub fn answer(w: Walk) -> Found
-    ensures { λ r. ⌜ ((o : Outcome (List ℕ)) (before list : List ℕ) → WalkedAs o (w .answer) before list → FoundAs o r before list) ⌝ }
-{
-    let answer = w.answer;
-    match answer {
-        Walked::Entries(n) => Found::Rows(n),
-        Walked::Refused(why) => Found::Refused(why),
-    }
 }

@@ -16,16 +16,17 @@ use Rattle.format.specs.declared.Refusal.the-variants.{NoSuchRow}
 use Rattle.format.specs.Outcome.{Outcome, Outcome.value, Outcome.refusal, _>>=_, pick}
 use Rattle.format.specs.Runs.{readRun, decoded}
 use Rattle.format.proofs.Runs.{run-long}
-use Rattle.read_walk.specs.declared.Walked.{Walked}
-use Rattle.read_walk.specs.declared.Walked.the-variants.{Entries, Refused}
-use Rattle.read_walk.specs.Walks.{Kept.allValues, kept, walked, WalkedAs, InPass}
+use Rattle.format.specs.declared.Stored.{Stored}
+use Rattle.format.specs.declared.Stored.the-variants.{Entries, Refused}
+use Rattle.format.specs.Calls.{StoredAs}
+use Rattle.read_walk.specs.Walks.{Kept.allValues, kept, walked, InPass}
 
 module _ (read : ℕ → Outcome ℕ) (window : Window) (first n : ℕ) (list : List ℕ) (long : length list ≡ n) where
-  pub leaves : window .rows < first + n → WalkedAs (decoded read (window .rows) first n) (Refused NoSuchRow) list list
+  pub leaves : window .rows < first + n → StoredAs (decoded read (window .rows) first n) (Refused NoSuchRow) list list
   unfolding decoded
   leaves h = rw (lt-leb (first + n) (window .rows) h) (record { answer = refl; list = refl })
 
-  pub none : first + n ≤ window .rows → n ≡ 0 → WalkedAs (decoded read (window .rows) first n) (Entries 0) list list
+  pub none : first + n ≤ window .rows → n ≡ 0 → StoredAs (decoded read (window .rows) first n) (Entries 0) list list
   unfolding decoded readRun
   none h e = rw (le-leb (first + n) (window .rows) h, e) (record { answer = refl; list = refl })
 
@@ -40,7 +41,7 @@ module _ (read : ℕ → Outcome ℕ) (window : Window) (first n : ℕ) (list : 
       by-outcome (value vs) e = let fits : length vs ≤ length list = omega (arith, run-long read first n vs e, long) in rw (le-leb (length vs) (length list) fits)
       by-outcome (refusal x y) e = refl
 
-  pub begins-run : first + n ≤ window .rows → 0 < n → (t : Bool) → t ≡ leb (first + n - first) (512 - (window .first + first) % 512) → (a : Walked)
+  pub begins-run : first + n ≤ window .rows → 0 < n → (t : Bool) → t ≡ leb (first + n - first) (512 - (window .first + first) % 512) → (a : Stored)
       → InPass allValues read window (decoded read (window .rows) first n) list (record { base = window .first; first = first; end = first + n; at = first; n = 0; storing = t; going = true; answer = a }) list
   unfolding readRun
   begins-run h some t e a =

@@ -8,22 +8,20 @@ ghost use lib.Seq.{sets};
 ghost use Rattle.format.specs.Outcome.{Outcome, pick};
 ghost use Rattle.format.specs.Reading.{blockAt, rowIn, rowAt};
 ghost use Rattle.format.specs.Runs.{readRun, decoded};
-ghost use Rattle.format.specs.Calls.{RunAs};
 ghost use Rattle.read_row.specs.Chunks.{Chunk};
 ghost use Rattle.read_run.specs.Places.{PlacedAs};
-ghost use Rattle.read_walk.specs.Walks.{Kept.allValues, WalkedAs, nextChunk, Going, left, Walking};
+ghost use Rattle.read_walk.specs.Walks.{Kept.allValues, nextChunk, Going, left, Walking, Keeps};
 use format::Block;
 use format::Column;
 use format::Refusal;
-use format::RunRead;
+use format::Stored;
 use format::Window;
 use format::WindowRow;
 use read_row::reader::Decoded;
 use read_walk::Walk;
-use read_walk::Walked;
 
 // A run that is over before it begins.
-fn settled(first: u32, answer: Walked) -> Walk
+fn settled(first: u32, answer: Stored) -> Walk
     ensures { λ r. ⌜ (r .going ≡ false) × (r .answer ≡ answer) ⌝ }
 {
     Walk {
@@ -43,13 +41,13 @@ pub fn begin(window: Window, first: u32, n: usize) -> Walk
     ensures { λ w. ⌜ ((read : ℕ → Outcome ℕ) (list : List ℕ) → length list ≡ n → Walking allValues read window (decoded read (window .rows) first n) list w list) ⌝ }
 {
     if window.rows < first {
-        return settled(first, Walked::Refused(Refusal::NoSuchRow));
+        return settled(first, Stored::Refused(Refusal::NoSuchRow));
     }
     if ((window.rows - first) as usize) < n {
-        return settled(first, Walked::Refused(Refusal::NoSuchRow));
+        return settled(first, Stored::Refused(Refusal::NoSuchRow));
     }
     if n == 0 {
-        return settled(first, Walked::Entries(0));
+        return settled(first, Stored::Entries(0));
     }
     let end = first + n as u32;
     let at = read_row::reader::column_row(window.first, WindowRow(first));
@@ -61,7 +59,7 @@ pub fn begin(window: Window, first: u32, n: usize) -> Walk
         n: 0,
         storing: end - first <= 512 - at.0 % 512,
         going: true,
-        answer: Walked::Entries(n),
+        answer: Stored::Entries(n),
     }
 }
 
@@ -87,7 +85,7 @@ fn step_through(
     out: &mut [u64],
 ) -> Walk
     requires { ⌜ Going w × (w .base ≡ column .window .first) × (w .end ≤ column .window .rows) × (length (now values) ≡ nextChunk w) × (length (now out) ≡ w .end - w .first) × (w .n ≡ w .at - w .first) ⌝ }
-    ensures { λ r. ⌜ ((table : List Block) (before : List ℕ) (o : Outcome (List ℕ)) → blocks ≡ length table → block ≡ blockAt table ((w .base + w .at) % 2 ^ 32 / 512) → Walking allValues (rowAt column table (now (bytes .entry))) (column .window) o before w (now (out .entry)) → Walking allValues (rowAt column table (now (bytes .entry))) (column .window) o before r (now (out .exit))) ⌝ }
+    ensures { λ r. ⌜ Keeps allValues column blocks block (now (bytes .entry)) w r (now (out .entry)) (now (out .exit)) ⌝ }
     ensures { λ r. ⌜ left r < left w ⌝ }
 {
     let size = values.len();
@@ -134,7 +132,7 @@ fn step_straight(
     out: &mut [u64],
 ) -> Walk
     requires { ⌜ Going w × (w .base ≡ column .window .first) × (w .end ≤ column .window .rows) × (size ≡ nextChunk w) × (length (now out) ≡ w .end - w .first) × (w .n ≡ w .at - w .first) × (w .storing ≡ true) × (size < w .end - w .first) ⌝ }
-    ensures { λ r. ⌜ ((table : List Block) (before : List ℕ) (o : Outcome (List ℕ)) → blocks ≡ length table → block ≡ blockAt table ((w .base + w .at) % 2 ^ 32 / 512) → Walking allValues (rowAt column table (now (bytes .entry))) (column .window) o before w (now (out .entry)) → Walking allValues (rowAt column table (now (bytes .entry))) (column .window) o before r (now (out .exit))) ⌝ }
+    ensures { λ r. ⌜ Keeps allValues column blocks block (now (bytes .entry)) w r (now (out .entry)) (now (out .exit)) ⌝ }
     ensures { λ r. ⌜ left r < left w ⌝ }
 {
     let room = out.len();
@@ -170,7 +168,7 @@ fn step_buffered(
     out: &mut [u64],
 ) -> Walk
     requires { ⌜ Going w × (w .base ≡ column .window .first) × (w .end ≤ column .window .rows) × (length (now out) ≡ w .end - w .first) × (w .n ≡ w .at - w .first) ⌝ }
-    ensures { λ r. ⌜ ((table : List Block) (before : List ℕ) (o : Outcome (List ℕ)) → blocks ≡ length table → block ≡ blockAt table ((w .base + w .at) % 2 ^ 32 / 512) → Walking allValues (rowAt column table (now (bytes .entry))) (column .window) o before w (now (out .entry)) → Walking allValues (rowAt column table (now (bytes .entry))) (column .window) o before r (now (out .exit))) ⌝ }
+    ensures { λ r. ⌜ Keeps allValues column blocks block (now (bytes .entry)) w r (now (out .entry)) (now (out .exit)) ⌝ }
     ensures { λ r. ⌜ left r < left w ⌝ }
 {
     let mut buffer = [0u64; 512];
@@ -188,7 +186,7 @@ pub fn step(
     out: &mut [u64],
 ) -> Walk
     requires { ⌜ Going w × (w .base ≡ column .window .first) × (w .end ≤ column .window .rows) × (length (now out) ≡ w .end - w .first) × (w .n ≡ w .at - w .first) ⌝ }
-    ensures { λ r. ⌜ ((table : List Block) (before : List ℕ) (o : Outcome (List ℕ)) → blocks ≡ length table → block ≡ blockAt table ((w .base + w .at) % 2 ^ 32 / 512) → Walking allValues (rowAt column table (now (bytes .entry))) (column .window) o before w (now (out .entry)) → Walking allValues (rowAt column table (now (bytes .entry))) (column .window) o before r (now (out .exit))) ⌝ }
+    ensures { λ r. ⌜ Keeps allValues column blocks block (now (bytes .entry)) w r (now (out .entry)) (now (out .exit)) ⌝ }
     ensures { λ r. ⌜ left r < left w ⌝ }
 {
     let size = read_walk::chunk_of(w);
@@ -200,15 +198,4 @@ pub fn step(
         return step_straight(column, blocks, block, bytes, w, size, out);
     }
     step_buffered(column, blocks, block, bytes, w, out)
-}
-
-// What a run that is over found.
-pub fn answer(w: Walk) -> RunRead
-    ensures { λ r. ⌜ ((o : Outcome (List ℕ)) (before list : List ℕ) → WalkedAs o (w .answer) before list → RunAs o r before list) ⌝ }
-{
-    let answer = w.answer;
-    match answer {
-        Walked::Entries(n) => RunRead::Values(n),
-        Walked::Refused(why) => RunRead::Refused(why),
-    }
 }

@@ -26,7 +26,7 @@ use Rattle.format.specs.declared.Window.{Window}
 use Rattle.format.specs.declared.Refusal.the-variants.{ListShort}
 use Rattle.format.specs.Outcome.{Outcome, Outcome.value, Outcome.refusal, _>>=_, _>>_, demand, pick, howMany}
 use Rattle.format.specs.Reading.{blockAt}
-use Rattle.format.specs.Refusals.{numbered, paper}
+use Rattle.format.specs.Refusals.{numbered, paper, storedMeaning}
 use Rattle.format.specs.Runs.{readRun}
 use Rattle.format.proofs.Outcomes.{not-value, value-same, by-step, by-demand}
 use Rattle.format.proofs.Runs.{run-long, run-after, run-refused}
@@ -34,10 +34,11 @@ use Rattle.format.proofs.Tests.{when, unless, as-unless}
 use Rattle.read_row.specs.declared.reader.Decoded.{Decoded}
 use Rattle.read_row.specs.declared.reader.Decoded.the-variants.{Whole, Refused as NotDecoded}
 use Rattle.read_row.specs.Chunks.{chunkSize}
+use Rattle.format.specs.Calls.{StoredAs}
 use Rattle.read_walk.specs.declared.Walk.{Walk}
-use Rattle.read_walk.specs.declared.Walked.{Walked}
-use Rattle.read_walk.specs.declared.Walked.the-variants.{Entries, Refused}
-use Rattle.read_walk.specs.Walks.{Kept, Kept.allValues, Kept.rowsOf, entries, kept, walkedMeaning, WalkedAs, nextChunk, Going, left, stores, Sized, Single, Unrefused, InPass, Walking}
+use Rattle.format.specs.declared.Stored.{Stored}
+use Rattle.format.specs.declared.Stored.the-variants.{Entries, Refused}
+use Rattle.read_walk.specs.Walks.{Kept, Kept.allValues, Kept.rowsOf, entries, kept, nextChunk, Going, left, stores, Sized, Single, Unrefused, InPass, Walking}
 use Rattle.read_chunk.proofs.Chunks.{chunk-to}
 use Rattle.read_chunk.proofs.Rows.{rows-few, rows-joined}
 
@@ -93,16 +94,16 @@ module _ (w : Walk) (g : Going w) where
 
 module _ {k : Kept} {read : ℕ → Outcome ℕ} {window : Window} {o : Outcome (List ℕ)} {before list : List ℕ} {w : Walk} where
   -- a walk that is over has its answer
-  pub ended : {a : Walked} → w .going ≡ false → w .answer ≡ a → WalkedAs o a before list → Walking k read window o before w list
+  pub ended : {a : Stored} → w .going ≡ false → w .answer ≡ a → StoredAs o a before list → Walking k read window o before w list
   ended {a} e g f =
-      record { phase = as-unless (InPass k read window o before w list) (WalkedAs o (w .answer) before list) (w .going) e (subst (λ (x : Walked). WalkedAs o x before list) (sym g) f) }
+      record { phase = as-unless (InPass k read window o before w list) (StoredAs o (w .answer) before list) (w .going) e (subst (λ (x : Stored). StoredAs o x before list) (sym g) f) }
 
   module _ (f : Walking k read window o before w list) where
-    pub is-over : w .going ≡ false → WalkedAs o (w .answer) before list
-    is-over e = unless (InPass k read window o before w list) (WalkedAs o (w .answer) before list) (w .going) e (f .phase)
+    pub is-over : w .going ≡ false → StoredAs o (w .answer) before list
+    is-over e = unless (InPass k read window o before w list) (StoredAs o (w .answer) before list) (w .going) e (f .phase)
 
     pub is-passing : w .going ≡ true → InPass k read window o before w list
-    is-passing e = when (InPass k read window o before w list) (WalkedAs o (w .answer) before list) (w .going) e (f .phase)
+    is-passing e = when (InPass k read window o before w list) (StoredAs o (w .answer) before list) (w .going) e (f .phase)
 
 -- the list that a call left, by what it was told
 pub left-as : {k : Kept} {read : ℕ → Outcome ℕ} {window : Window} {o : Outcome (List ℕ)} {before list : List ℕ} {w : Walk} {s t : Bool} (xs ys : List ℕ) → list ≡ pick s xs ys → s ≡ t
@@ -144,7 +145,7 @@ held true number also xs found e = refl
 held false number also xs found e = absurd (not-value e)
 
 -- a second pass has its answer, be it counted or not asked for
-counted : (k : Kept) (rows room : ℕ) (t : Bool) (a b : Walked) (o : Outcome (List ℕ)) → Sized k rows room t a o → walkedMeaning b ≡ howMany o → Sized k rows room true b o
+counted : (k : Kept) (rows room : ℕ) (t : Bool) (a b : Stored) (o : Outcome (List ℕ)) → Sized k rows room t a o → storedMeaning b ≡ howMany o → Sized k rows room true b o
 counted allValues rows room t a b o f e = f
 counted (rowsOf test) rows room t a b o f e = λ s many. e
 
@@ -226,7 +227,7 @@ module _ (k : Kept) (read : ℕ → Outcome ℕ) {window : Window} {o : Outcome 
           found ∙ rw (le-leb (length (entries k (w .first) (f .values ++ vs))) (length before) fits)
 
       -- a pass that stores has room
-      pub all-stored : w .storing ≡ true → WalkedAs o (Entries (w .n + n)) before (pick (w .storing) (sets list (w .n) (entries k (w .at) vs)) list)
+      pub all-stored : w .storing ≡ true → StoredAs o (Entries (w .n + n)) before (pick (w .storing) (sets list (w .n) (entries k (w .at) vs)) list)
       all-stored e =
           let is : o ≡ value (entries k (w .first) (f .values ++ vs)) =
           ⊎-elim
@@ -244,13 +245,13 @@ module _ (k : Kept) (read : ℕ → Outcome ℕ) {window : Window} {o : Outcome 
         untouched : pick (w .storing) (sets list (w .n) (entries k (w .at) vs)) list ≡ before
         untouched = stored-so-far ∙ rw e refl
 
-        pub too-short : length before < w .n + n → WalkedAs o (Refused (ListShort (w .n + n))) before (pick (w .storing) (sets list (w .n) (entries k (w .at) vs)) list)
+        pub too-short : length before < w .n + n → StoredAs o (Refused (ListShort (w .n + n))) before (pick (w .storing) (sets list (w .n) (entries k (w .at) vs)) list)
         too-short h =
             let over : length before < length (entries k (w .first) (f .values ++ vs)) = omega (arith, all-count) in
             let is : o ≡ refusal 15 ((w .n + n) ∷ []) = found ∙ rw (lt-leb (length (entries k (w .first) (f .values ++ vs))) (length before) over, ← all-count) in
             record { answer = rw is refl; list = untouched ∙ rw is refl }
 
-        pub none-found : w .n + n ≡ 0 → WalkedAs o (Entries 0) before (pick (w .storing) (sets list (w .n) (entries k (w .at) vs)) list)
+        pub none-found : w .n + n ≡ 0 → StoredAs o (Entries 0) before (pick (w .storing) (sets list (w .n) (entries k (w .at) vs)) list)
         none-found h =
             let is : o ≡ value [] = all-kept (omega arith) ∙ ap value (nothing _ (sym all-count ∙ h)) in
             record { answer = rw is refl; list = untouched ∙ rw is refl }
@@ -277,7 +278,7 @@ module _ (k : Kept) (read : ℕ → Outcome ℕ) {window : Window} {o : Outcome 
 
   -- ---- at a refused row
 
-  pub refuses : (x : Refusal) → readRun read (w .at) size ≡ numbered x → WalkedAs o (Refused x) before list
+  pub refuses : (x : Refusal) → readRun read (w .at) size ≡ numbered x → StoredAs o (Refused x) before list
   refuses x run =
       let far : w .end - w .first ≡ (w .at - w .first) + (size + (w .end - (w .at + size))) = omega (arith, f .going .from, chunk-to (w .base + w .at) (w .at) (w .end) size (f .going .to) chunk) in
       let stops : readRun read (w .at) (size + (w .end - (w .at + size))) ≡ refusal (paper x .0) (paper x .1) = run-refused read (w .at) size (w .end - (w .at + size)) (paper x .0) (paper x .1) run in

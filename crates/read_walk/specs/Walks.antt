@@ -1,6 +1,6 @@
 -- A walk over the rows of a lookup or a run in a window, chunk by chunk: what it is to store, what its passes have done so far, and what is left. Over any reading.
 -- Assumes nothing.
-use Prim.Native.Nat.{ℕ, _+_, _-_, _%_, _≤_, _<_}
+use Prim.Native.Nat.{ℕ, _+_, _-_, _/_, _%_, _^_, _≤_, _<_}
 use mathlib.Core.Path.{_≡_}
 use mathlib.Core.Bool.{Bool, true, false}
 use mathlib.Core.Logic.{_⊎_}
@@ -8,13 +8,14 @@ use mathlib.Core.List.{List, [], _∷_}
 use lib.Dec.{leb}
 use lib.ListN.{length}
 use lib.Seq.{sets}
+use Rattle.format.specs.declared.Block.{Block}
+use Rattle.format.specs.declared.Column.{Column}
 use Rattle.format.specs.declared.Window.{Window}
-use Rattle.format.specs.Outcome.{Outcome, Outcome.value, _>>=_, _>>_, demand, pick, howMany, stored}
-use Rattle.format.specs.Refusals.{numbered}
+use Rattle.format.specs.Outcome.{Outcome, Outcome.value, _>>=_, _>>_, demand, pick, howMany}
+use Rattle.format.specs.Reading.{blockAt, rowAt}
 use Rattle.format.specs.Runs.{readRun}
 use Rattle.read_walk.specs.declared.Walk.{Walk}
-use Rattle.read_walk.specs.declared.Walked.{Walked}
-use Rattle.read_walk.specs.declared.Walked.the-variants.{Entries, Refused}
+use Rattle.format.specs.declared.Stored.{Stored}
 use Rattle.read_chunk.specs.Rows.{rowsAmong}
 use Rattle.read_row.specs.declared.reader.Decoded.{Decoded}
 use Rattle.read_row.specs.declared.reader.Decoded.the-variants.{Whole, Refused as NotDecoded}
@@ -42,18 +43,6 @@ kept k room r values =
 abbrev pub walked : Kept → (read : ℕ → Outcome ℕ) (first end room : ℕ) → Outcome (List ℕ)
 walked k read first end room = readRun read first (end - first) >>= kept k room first
 
--- ---- its answer
-
--- how many entries it stored
-abbrev pub walkedMeaning : Walked → Outcome ℕ
-walkedMeaning (Entries n) = value n
-walkedMeaning (Refused r) = numbered r
-
--- a walk that is over found o: its answer, and what the list holds
-pub record WalkedAs (o : Outcome (List ℕ)) (r : Walked) (before after : List ℕ) : Type 0 where
-  pub answer : walkedMeaning r ≡ howMany o
-  pub list : after ≡ stored o before
-
 -- ---- a walk under way
 
 -- the rows of the chunk at hand
@@ -77,9 +66,9 @@ stores w Whole = w .storing
 stores w (NotDecoded x) = false
 
 -- the sizes that are known: the list of a run is as long as its rows, and a lookup over more than 512 rows that stores has its answer, since it has counted
-abbrev pub Sized : Kept → (rows room : ℕ) (storing : Bool) (answer : Walked) (o : Outcome (List ℕ)) → Type 0
+abbrev pub Sized : Kept → (rows room : ℕ) (storing : Bool) (answer : Stored) (o : Outcome (List ℕ)) → Type 0
 Sized allValues rows room storing answer o = room ≡ rows
-Sized (rowsOf test) rows room storing answer o = storing ≡ true → 512 < rows → walkedMeaning answer ≡ howMany o
+Sized (rowsOf test) rows room storing answer o = storing ≡ true → 512 < rows → storedMeaning answer ≡ howMany o
 
 -- it lies in one chunk, at its beginning, and a list of such a length has room for an entry a row
 pub record Single (room : ℕ) (w : Walk) : Type 0 where
@@ -107,4 +96,13 @@ pub record InPass (k : Kept) (read : ℕ → Outcome ℕ) (window : Window) (o :
 
 -- a walk under way, which is to find o: in a pass, or over
 pub record Walking (k : Kept) (read : ℕ → Outcome ℕ) (window : Window) (o : Outcome (List ℕ)) (before : List ℕ) (w : Walk) (list : List ℕ) : Type 0 where
-  pub phase : pick (w .going) (InPass k read window o before w list) (WalkedAs o (w .answer) before list)
+  pub phase : pick (w .going) (InPass k read window o before w list) (StoredAs o (w .answer) before list)
+
+-- ---- a turn
+
+-- a turn with the block of the row at hand, out of a table of so many, goes on with a walk over the rows by that table
+abbrev pub Keeps : Kept → (column : Column) (blocks : ℕ) (block : Block) (bytes : List ℕ) (w r : Walk) (list new : List ℕ) → Type 0
+Keeps k column blocks block bytes w r list new =
+    (table : List Block) (before : List ℕ) (o : Outcome (List ℕ))
+    → blocks ≡ length table → block ≡ blockAt table ((w .base + w .at) % 2 ^ 32 / 512)
+    → Walking k (rowAt column table bytes) (column .window) o before w list → Walking k (rowAt column table bytes) (column .window) o before r new

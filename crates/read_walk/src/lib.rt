@@ -9,19 +9,15 @@ ghost use lib.ListN.{length};
 ghost use lib.Seq.{sets};
 ghost use Rattle.format.specs.declared.Window.{Window};
 ghost use Rattle.format.specs.Outcome.{Outcome, Outcome.value, pick};
+ghost use Rattle.format.specs.Calls.{StoredAs};
 ghost use Rattle.format.specs.Runs.{readRun};
 ghost use Rattle.read_row.specs.Chunks.{DecodedAs};
 ghost use Rattle.read_walk.specs.Walks.{Kept, entries, nextChunk, Going, left, stores, InPass, Walking};
 use format::ColumnRow;
 use format::Refusal;
+use format::Stored;
 use format::WindowRow;
 use read_row::reader::Decoded;
-
-// How a walk ends: so many entries were stored, or nothing was.
-pub enum Walked {
-    Entries(usize),
-    Refused(Refusal),
-}
 
 // A walk under way: in the pass at hand, the rows before `at` are done, and `n` entries were found for them. While it is going on, it stores or only looks; then
 // its answer stands. A lookup that has turned to its second pass has its answer before it is over. Row 0 is row `base` of the column.
@@ -33,7 +29,7 @@ pub struct Walk {
     pub n: usize,
     pub storing: bool,
     pub going: bool,
-    pub answer: Walked,
+    pub answer: Stored,
 }
 
 // The column's row that the chunk at hand begins with.
@@ -59,7 +55,7 @@ pub fn chunk_of(w: Walk) -> usize
 }
 
 // The end of a walk, with its answer.
-pub fn over(w: Walk, answer: Walked) -> Walk
+pub fn over(w: Walk, answer: Stored) -> Walk
     ensures { λ r. ⌜ (r .going ≡ false) × (r .answer ≡ answer) ⌝ }
 {
     Walk {
@@ -97,13 +93,13 @@ fn advanced(w: Walk, size: usize, n: usize, room: usize) -> Walk
         };
     }
     if w.storing {
-        return over(w, Walked::Entries(total));
+        return over(w, Stored::Entries(total));
     }
     if room < total {
-        return over(w, Walked::Refused(Refusal::ListShort { found: total }));
+        return over(w, Stored::Refused(Refusal::ListShort { found: total }));
     }
     if total == 0 {
-        return over(w, Walked::Entries(0));
+        return over(w, Stored::Entries(0));
     }
     Walk {
         base: w.base,
@@ -113,7 +109,7 @@ fn advanced(w: Walk, size: usize, n: usize, room: usize) -> Walk
         n: 0,
         storing: true,
         going: true,
-        answer: Walked::Entries(total),
+        answer: Stored::Entries(total),
     }
 }
 
@@ -135,6 +131,13 @@ pub fn behind(w: Walk, decoded: Decoded, size: usize, n: usize, room: usize) -> 
 {
     match decoded {
         Decoded::Whole => advanced(w, size, n, room),
-        Decoded::Refused(why) => over(w, Walked::Refused(why)),
+        Decoded::Refused(why) => over(w, Stored::Refused(why)),
     }
+}
+
+// What a walk that is over found.
+pub fn answer(w: Walk) -> Stored
+    ensures { λ r. ⌜ ((o : Outcome (List ℕ)) (before list : List ℕ) → StoredAs o (w .answer) before list → StoredAs o r before list) ⌝ }
+{
+    w.answer
 }

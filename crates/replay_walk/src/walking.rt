@@ -6,13 +6,13 @@ ghost use Prim.Native.Nat.{ℕ, _+_, _-_, _*_, _/_, _%_, _^_, _≤_, _<_};
 ghost use lib.ListN.{length};
 ghost use Rattle.format.specs.Outcome.{Outcome, Outcome.value, pick};
 ghost use Rattle.format.specs.Lookup.{within};
-ghost use Rattle.format.specs.Reading.{columnRow, blockAt, rowAt};
+ghost use Rattle.format.specs.Reading.{columnRow};
 ghost use Rattle.format.specs.Replaying.{sameRows};
 ghost use Rattle.format.specs.declared.Replayed.the-variants.{Differ};
 ghost use Rattle.format.specs.Runs.{readRun};
 ghost use Rattle.read_row.specs.Chunks.{DecodedAs, chunkSize};
 ghost use Rattle.read_chunk.specs.Rows.{rowsAmong};
-ghost use Rattle.replay_walk.specs.Walking.{toCome, Onward, UnderWay, OnHand, Replaying, left};
+ghost use Rattle.replay_walk.specs.Walking.{toCome, Onward, UnderWay, OnHand, Replaying, left, Keeps, Meets};
 use format::Block;
 use format::Column;
 use format::Recorded;
@@ -102,7 +102,7 @@ fn met_all(
     before: u32,
 ) -> Met
     requires { ⌜ (row + length (now values) ≤ 2 ^ 32) × (before ≤ item .many) ⌝ }
-    ensures { λ m. ⌜ ((rest : List ℕ) → sameRows (rowsAmong (within (item .low) (item .high)) row (now (values .entry)) ++ rest) (toCome head (now (recording .entry)) item before) ≡ pick (m .same) (sameRows rest (toCome head (now (recording .entry)) item (m .n))) false) ⌝ }
+    ensures { λ m. ⌜ Meets head (now (recording .entry)) item (rowsAmong (within (item .low) (item .high)) row (now (values .entry))) before (m .n) (m .same) ⌝ }
     ensures { λ m. ⌜ m .n ≤ item .many ⌝ }
 {
     let mut n = before;
@@ -219,7 +219,7 @@ fn behind(rows: u32, recording: &[u8], w: Walk, size: usize, n: u32) -> Walk
 // Internal: asks for a record at hand, and a chunk of its rows. Behind a chunk that was decoded, and whose rows were met or not: a refused row, or one that was not recorded, ends the replay.
 fn turned(rows: u32, recording: &[u8], w: Walk, decoded: Decoded, size: usize, met: Met) -> Walk
     requires { ⌜ (w .going ≡ true) × (0 < size) × (w .at + size ≤ w .end) × (w .k < w .head .records) × (met .n ≤ w .item .many) ⌝ }
-    ensures { λ r. ⌜ ((read : ℕ → Outcome ℕ) (values : List ℕ) → OnHand read rows (now (recording .entry)) w → DecodedAs (readRun read (w .at) size) decoded values → ((rest : List ℕ) → sameRows (rowsAmong (within (w .item .low) (w .item .high)) (w .at) values ++ rest) (toCome (w .head) (now (recording .entry)) (w .item) (w .n)) ≡ pick (met .same) (sameRows rest (toCome (w .head) (now (recording .entry)) (w .item) (met .n))) false) → Replaying read rows (now (recording .entry)) r) ⌝ }
+    ensures { λ r. ⌜ ((read : ℕ → Outcome ℕ) (values : List ℕ) → OnHand read rows (now (recording .entry)) w → DecodedAs (readRun read (w .at) size) decoded values → Meets (w .head) (now (recording .entry)) (w .item) (rowsAmong (within (w .item .low) (w .item .high)) (w .at) values) (w .n) (met .n) (met .same) → Replaying read rows (now (recording .entry)) r) ⌝ }
     ensures { λ r. ⌜ left r < left w ⌝ }
 {
     if let Decoded::Refused(_) = decoded {
@@ -242,7 +242,7 @@ fn step_through(
     values: &mut [u64],
 ) -> Walk
     requires { ⌜ UnderWay (column .window .rows) w × (length (now values) ≡ chunkSize (columnRow column (w .at)) (w .end - w .at)) ⌝ }
-    ensures { λ r. ⌜ ((table : List Block) → blocks ≡ length table → block ≡ blockAt table (columnRow column (w .at) % 2 ^ 32 / 512) → Replaying (rowAt column table (now (bytes .entry))) (column .window .rows) (now (recording .entry)) w → Replaying (rowAt column table (now (bytes .entry))) (column .window .rows) (now (recording .entry)) r) ⌝ }
+    ensures { λ r. ⌜ Keeps column blocks block (now (bytes .entry)) (now (recording .entry)) w r ⌝ }
     ensures { λ r. ⌜ left r < left w ⌝ }
 {
     let size = values.len();
@@ -261,7 +261,7 @@ pub fn step(
     w: Walk,
 ) -> Walk
     requires { ⌜ UnderWay (column .window .rows) w ⌝ }
-    ensures { λ r. ⌜ ((table : List Block) → blocks ≡ length table → block ≡ blockAt table (columnRow column (w .at) % 2 ^ 32 / 512) → Replaying (rowAt column table (now (bytes .entry))) (column .window .rows) (now (recording .entry)) w → Replaying (rowAt column table (now (bytes .entry))) (column .window .rows) (now (recording .entry)) r) ⌝ }
+    ensures { λ r. ⌜ Keeps column blocks block (now (bytes .entry)) (now (recording .entry)) w r ⌝ }
     ensures { λ r. ⌜ left r < left w ⌝ }
 {
     let mut buffer = [0u64; 512];

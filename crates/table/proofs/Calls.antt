@@ -19,7 +19,7 @@ use lib.Seq.{sets, sets-eq}
 use borrow.Author.Tests.{lt-ltb}
 use Rattle.format.specs.declared.Block.{Block}
 use Rattle.format.specs.declared.Column.{Column}
-use Rattle.format.specs.declared.Found.{Found}
+use Rattle.format.specs.declared.Stored.{Stored}
 use Rattle.format.specs.declared.Opened.{Opened}
 use Rattle.format.specs.declared.Opened.the-variants.{Column as OpenedColumn}
 use Rattle.format.specs.declared.Refusal.the-variants.{OutputShort, OutOfBounds}
@@ -28,8 +28,7 @@ use Rattle.format.specs.declared.Spelling.the-variants.{Shortest}
 use Rattle.format.specs.declared.RowRead.{RowRead}
 use Rattle.format.specs.declared.RowRead.the-variants.{Value, Refused as NotRead}
 use Rattle.format.specs.declared.Window.{Window}
-use Rattle.format.specs.declared.Written.{Written}
-use Rattle.format.specs.declared.Written.the-variants.{Length, Refused as NotWritten}
+use Rattle.format.specs.declared.Stored.the-variants.{Entries, Refused as NotStored}
 use Rattle.format.specs.Outcome.{Outcome, Outcome.value, Outcome.refusal}
 use Rattle.format.specs.Word.{AllBelow}
 use Rattle.format.specs.Refusals.{rowMeaning}
@@ -42,7 +41,7 @@ use Rattle.format.specs.Windows.{windowed, inWindow}
 use Rattle.format.specs.Lookup.{lookedUp, within}
 use Rattle.format.specs.Lengths.{reserve}
 use Rattle.format.specs.Demands.{filledBy, answered, shown, readsAs, GivesBack, Applies, Alike, SameBits, Differ, RowsTell}
-use Rattle.format.proofs.Answers.{row-injective, opened-injective, written-injective}
+use Rattle.format.proofs.Answers.{row-injective, opened-injective, stored-injective}
 use Rattle.format.proofs.Outcomes.{not-value, value-same}
 use Rattle.format.proofs.Windows.{NarrowedFrom, own-windows, never-unfit}
 use Rattle.format.proofs.Writes.{written-as, Writes, never-needless}
@@ -50,7 +49,7 @@ use Rattle.format.proofs.MostBytes.{reserved}
 use Rattle.format.proofs.Demand2.{demand2, written-shortest, written-passes}
 use Rattle.format.proofs.Demand3.{demand3}
 use Rattle.format.proofs.Stores.{front-of}
-use Rattle.format.specs.Calls.{FoundAs, OpenedAs, SerializedAs}
+use Rattle.format.specs.Calls.{StoredAs, OpenedAs}
 
 -- ---- opening
 
@@ -110,7 +109,7 @@ own-fits s table after c p opened-as d from r h =
 -- ---- demand 2
 
 -- what an answer of `serialize` that is a length comes from: a column, which now stands at the output's front
-pub written-of : (x : Outcome (List ℕ)) (before after : List ℕ) (n : ℕ) → SerializedAs x (Length n) before after
+pub written-of : (x : Outcome (List ℕ)) (before after : List ℕ) (n : ℕ) → StoredAs x (Entries n) before after
     → (bytes : List ℕ) × (x ≡ value bytes) × (n ≡ length bytes) × (after ≡ sets before 0 bytes)
 written-of (value bytes) before after n r =
     let e : value n ≡ value (length bytes) = r .answer in
@@ -124,9 +123,9 @@ written-of (refusal number also) before after n r =
 pub record Shows (vs s : List ℕ) (after : List Block) (c : Column) : Type 0 where
   pub count : c .window .rows ≡ length vs
   pub rows : (r : ℕ) → r < length vs → (b : RowRead) → rowMeaning b ≡ rowAt c after s r → b ≡ Value (getD vs r 0)
-  pub found : (low high first end : ℕ) (before list : List ℕ) (f : Found)
-      → FoundAs (lookedUp (rowAt c after s) (c .window .rows) (within low high) first end (length before)) f before list
-      → FoundAs (lookedUp (readsAs vs) (length vs) (within low high) first end (length before)) f before list
+  pub found : (low high first end : ℕ) (before list : List ℕ) (f : Stored)
+      → StoredAs (lookedUp (rowAt c after s) (c .window .rows) (within low high) first end (length before)) f before list
+      → StoredAs (lookedUp (readsAs vs) (length vs) (within low high) first end (length before)) f before list
 
 -- from bytes that were opened: a column that is spelled as short as can be and gives back the list, and through any window in it that part of the list
 pub record Returned (vs s : List ℕ) (after : List Block) (a : Opened) : Type 0 where
@@ -142,8 +141,8 @@ shows vs bytes table after o left back =
       count = back .count;
       rows = λ (r : ℕ) (h : r < length vs) (b : RowRead) (f : rowMeaning b ≡ rowAt (o .column) after bytes r).
           row-injective b (Value (getD vs r 0)) (f ∙ rw left (back .rows r h));
-      found = λ (low high first end : ℕ) (before list : List ℕ) (f : Found).
-          subst (λ (x : Outcome (List ℕ)). FoundAs x f before list)
+      found = λ (low high first end : ℕ) (before list : List ℕ) (f : Stored).
+          subst (λ (x : Outcome (List ℕ)). StoredAs x f before list)
           (rw left (back .found low high first end (length before)));
     }
 
@@ -162,7 +161,7 @@ returned vs cs bytes table after room each e enough a opened-as =
     }
 
 -- demand 2, of the calls: what `serialize` wrote, opened with any table that has room, gives back the list
-pub calls-return : (vs cs out written-out : List ℕ) (n : ℕ) → AllBelow (2 ^ 64) vs → SerializedAs (written vs cs (length out)) (Length n) out written-out
+pub calls-return : (vs cs out written-out : List ℕ) (n : ℕ) → AllBelow (2 ^ 64) vs → StoredAs (written vs cs (length out)) (Entries n) out written-out
     → (table after : List Block) → blockCount (length vs) ≤ length table
     → (a : Opened) → OpenedAs (opened (take n written-out) (length table)) a table after → Returned vs (take n written-out) after a
 calls-return vs cs out written-out n each wrote table after enough a opened-as =
@@ -177,10 +176,10 @@ calls-return vs cs out written-out n each wrote table after enough a opened-as =
 -- as it was. Room of which the list's length alone tells is enough
 pub record Accepted (vs cs bytes : List ℕ) : Type 0 where
   pub most : length bytes ≤ reserve (length vs)
-  pub there : (out after : List ℕ) (a : Written) → length bytes ≤ length out → SerializedAs (written vs cs (length out)) a out after
-      → (a ≡ Length (length bytes)) × (after ≡ bytes ++ drop (length bytes) out)
-  pub short : (out after : List ℕ) (a : Written) → length out < length bytes → SerializedAs (written vs cs (length out)) a out after
-      → (a ≡ NotWritten (OutputShort (length bytes))) × (after ≡ out)
+  pub there : (out after : List ℕ) (a : Stored) → length bytes ≤ length out → StoredAs (written vs cs (length out)) a out after
+      → (a ≡ Entries (length bytes)) × (after ≡ bytes ++ drop (length bytes) out)
+  pub short : (out after : List ℕ) (a : Stored) → length out < length bytes → StoredAs (written vs cs (length out)) a out after
+      → (a ≡ NotStored (OutputShort (length bytes))) × (after ≡ out)
 
 pub calls-accept : (vs cs : List ℕ) (j : ℕ) → length vs < 2 ^ 32 → AllBelow 3 cs → j < length cs → Applies (getD cs j 0) vs → (bytes : List ℕ) × Accepted vs cs bytes
 calls-accept vs cs j few known h applies = (
@@ -188,11 +187,11 @@ calls-accept vs cs j few known h applies = (
   record {
     most = reserved vs cs (w .bytes) (length (w .bytes)) (w .there (length (w .bytes)) (omega arith));
     there = λ out after a room wrote.
-        let r : SerializedAs (value (w .bytes)) a out after = subst (λ (x : Outcome (List ℕ)). SerializedAs x a out after) (w .there (length out) room) wrote in
-        (written-injective a (Length (length (w .bytes))) (r .answer), r .list ∙ sets-eq (w .bytes) out 0 (omega arith) ∙ ap (λ (n : ℕ). w .bytes ++ drop n out) (zero-add (length (w .bytes))));
+        let r : StoredAs (value (w .bytes)) a out after = subst (λ (x : Outcome (List ℕ)). StoredAs x a out after) (w .there (length out) room) wrote in
+        (stored-injective a (Entries (length (w .bytes))) (r .answer), r .list ∙ sets-eq (w .bytes) out 0 (omega arith) ∙ ap (λ (n : ℕ). w .bytes ++ drop n out) (zero-add (length (w .bytes))));
     short = λ out after a less wrote.
-        let r : SerializedAs (refusal 4 (length (w .bytes) ∷ [])) a out after = subst (λ (x : Outcome (List ℕ)). SerializedAs x a out after) (w .short (length out) less) wrote in
-        (written-injective a (NotWritten (OutputShort (length (w .bytes)))) (r .answer), r .list);
+        let r : StoredAs (refusal 4 (length (w .bytes) ∷ [])) a out after = subst (λ (x : Outcome (List ℕ)). StoredAs x a out after) (w .short (length out) less) wrote in
+        (stored-injective a (NotStored (OutputShort (length (w .bytes)))) (r .answer), r .list);
   },
 )
   where
@@ -210,7 +209,7 @@ by-sheet (suc (suc zero)) s room o is both more known = both .1 ∙ sym is
 by-sheet (suc (suc (suc sheet))) s room o is both more known = absurd (omega arith)
 
 -- demand 2, of the calls, under either sheet: what `serialize` wrote is accepted and gives back the list
-pub calls-pass : (vs cs out written-out : List ℕ) (n : ℕ) → AllBelow (2 ^ 64) vs → SerializedAs (written vs cs (length out)) (Length n) out written-out
+pub calls-pass : (vs cs out written-out : List ℕ) (n : ℕ) → AllBelow (2 ^ 64) vs → StoredAs (written vs cs (length out)) (Entries n) out written-out
     → (table after : List Block) → blockCount (length vs) ≤ length table → (sheet : ℕ) → 0 < sheet → sheet ≤ 2
     → (a : Opened) → OpenedAs (openedUnder sheet (take n written-out) (length table)) a table after → Returned vs (take n written-out) after a
 calls-pass vs cs out written-out n each wrote table after enough sheet more known a opened-as =

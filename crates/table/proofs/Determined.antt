@@ -7,10 +7,9 @@ use mathlib.Core.List.{List}
 use lib.ListN.{length}
 use Rattle.format.specs.declared.Block.{Block}
 use Rattle.format.specs.declared.Column.{Column}
-use Rattle.format.specs.declared.Found.{Found}
+use Rattle.format.specs.declared.Stored.{Stored}
 use Rattle.format.specs.declared.Opened.{Opened}
 use Rattle.format.specs.declared.RowRead.{RowRead}
-use Rattle.format.specs.declared.RunRead.{RunRead}
 use Rattle.format.specs.Lookup.{lookedUp, within}
 use Rattle.format.specs.Opening.{Loaded, opened}
 use Rattle.format.specs.Outcome.{Outcome}
@@ -18,8 +17,8 @@ use Rattle.format.specs.Reading.{blockAt, rowAt}
 use Rattle.format.specs.Refusals.{rowMeaning}
 use Rattle.format.specs.Runs.{decoded}
 use Rattle.format.specs.Sheets.{openedUnder}
-use Rattle.format.specs.Calls.{FoundAs, RunAs, OpenedAs}
-use Rattle.format.proofs.Answers.{opened-injective, row-injective, found-injective, run-injective}
+use Rattle.format.specs.Calls.{StoredAs, OpenedAs}
+use Rattle.format.proofs.Answers.{opened-injective, row-injective, stored-injective}
 
 -- two answers of `block_at`
 pub block-determined : (t : List Block) (k : ℕ) (a b : Block) → a ≡ blockAt t k → b ≡ blockAt t k → a ≡ b
@@ -43,17 +42,17 @@ pub row-determined : (column : Column) (table : List Block) (bytes : List ℕ) (
 row-determined column table bytes row a b p q = row-injective a b (p ∙ sym q)
 
 -- two answers of `lookup`, and what the lent list holds afterwards
-pub lookup-determined : (column : Column) (table : List Block) (bytes : List ℕ) (low high first end : ℕ) (found : List ℕ) (a b : Found) (after after′ : List ℕ)
-    → FoundAs (lookedUp (rowAt column table bytes) (column .window .rows) (within low high) first end (length found)) a found after
-    → FoundAs (lookedUp (rowAt column table bytes) (column .window .rows) (within low high) first end (length found)) b found after′
+pub lookup-determined : (column : Column) (table : List Block) (bytes : List ℕ) (low high first end : ℕ) (found : List ℕ) (a b : Stored) (after after′ : List ℕ)
+    → StoredAs (lookedUp (rowAt column table bytes) (column .window .rows) (within low high) first end (length found)) a found after
+    → StoredAs (lookedUp (rowAt column table bytes) (column .window .rows) (within low high) first end (length found)) b found after′
     → (a ≡ b) × (after ≡ after′)
 lookup-determined column table bytes low high first end found a b after after′ p q =
-    (found-injective a b (p .answer ∙ sym (q .answer)), p .list ∙ sym (q .list))
+    (stored-injective a b (p .answer ∙ sym (q .answer)), p .list ∙ sym (q .list))
 
 -- two answers of `run`, and what the lent list holds afterwards
-pub run-determined : (column : Column) (table : List Block) (bytes : List ℕ) (first : ℕ) (out : List ℕ) (a b : RunRead) (after after′ : List ℕ)
-    → RunAs (decoded (rowAt column table bytes) (column .window .rows) first (length out)) a out after
-    → RunAs (decoded (rowAt column table bytes) (column .window .rows) first (length out)) b out after′
+pub run-determined : (column : Column) (table : List Block) (bytes : List ℕ) (first : ℕ) (out : List ℕ) (a b : Stored) (after after′ : List ℕ)
+    → StoredAs (decoded (rowAt column table bytes) (column .window .rows) first (length out)) a out after
+    → StoredAs (decoded (rowAt column table bytes) (column .window .rows) first (length out)) b out after′
     → (a ≡ b) × (after ≡ after′)
 run-determined column table bytes first out a b after after′ p q =
-    (run-injective a b (p .answer ∙ sym (q .answer)), p .list ∙ sym (q .list))
+    (stored-injective a b (p .answer ∙ sym (q .answer)), p .list ∙ sym (q .list))

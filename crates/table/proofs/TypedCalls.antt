@@ -22,7 +22,7 @@ use Rattle.format.specs.declared.FlagRead.{FlagRead}
 use Rattle.format.specs.declared.FlagRead.the-variants.{Value as FlagValue}
 use Rattle.format.specs.declared.FloatRead.{FloatRead}
 use Rattle.format.specs.declared.FloatRead.the-variants.{Value as FloatValue}
-use Rattle.format.specs.declared.Found.{Found}
+use Rattle.format.specs.declared.Stored.{Stored}
 use Rattle.format.specs.declared.Kind.{Kind}
 use Rattle.format.specs.declared.Kind.the-variants.{I64, Date, Bool as Flag, F64}
 use Rattle.format.specs.declared.Opened.{Opened}
@@ -34,7 +34,7 @@ use Rattle.format.specs.declared.SignedRead.the-variants.{Value as SignedValue}
 use Rattle.format.specs.declared.Spelling.{Spelling}
 use Rattle.format.specs.declared.Spelling.the-variants.{Shortest}
 use Rattle.format.specs.declared.Window.{Window}
-use Rattle.format.specs.declared.Written.the-variants.{Length}
+use Rattle.format.specs.declared.Stored.the-variants.{Entries}
 use Rattle.format.specs.Outcome.{Outcome, Outcome.value}
 use Rattle.format.specs.Word.{AllBelow}
 use Rattle.format.specs.Refusals.{rowMeaning, signedMeaning, flagMeaning, floatMeaning}
@@ -53,7 +53,7 @@ use Rattle.format.proofs.StoredLists.{stored-length}
 use Rattle.format.proofs.TypedLookups.{row-words, covered-lookup, signed-covers, flag-covers, float-covers}
 use Rattle.format.proofs.TypedDemands.{returns-as, shortest-as, passes-as, tell-typed}
 use Rattle.format.proofs.Stores.{front-of}
-use Rattle.format.specs.Calls.{OpenedAs, FoundAs, SerializedAs}
+use Rattle.format.specs.Calls.{OpenedAs, StoredAs}
 use Rattle.table.proofs.Calls.{TableOpens, reads, written-of, Accepted, calls-accept, by-sheet}
 
 -- ---- demand 2
@@ -62,9 +62,9 @@ use Rattle.table.proofs.Calls.{TableOpens, reads, written-of, Accepted,
 pub record ShowsAs (kind : Kind) (xs s : List ℕ) (after : List Block) (c : Column) : Type 0 where
   pub count : c .window .rows ≡ length xs
   pub rows : (r : ℕ) → r < length xs → (b : RowRead) → rowMeaning b ≡ rowAt c after s r → readAs (readingOf kind .value) (rowMeaning b) ≡ value (meant kind (getD xs r 0))
-  pub found : (low high : readingOf kind .Value) (range : Range) → Covers (readingOf kind) low high range → (first end : ℕ) (before list : List ℕ) (f : Found)
-      → FoundAs (lookedUp (rowAt c after s) (c .window .rows) (within (range .low) (range .high)) first end (length before)) f before list
-      → FoundAs (lookedUp (readsAs xs) (length xs) (λ x. lies (readingOf kind) low high (meant kind x)) first end (length before)) f before list
+  pub found : (low high : readingOf kind .Value) (range : Range) → Covers (readingOf kind) low high range → (first end : ℕ) (before list : List ℕ) (f : Stored)
+      → StoredAs (lookedUp (rowAt c after s) (c .window .rows) (within (range .low) (range .high)) first end (length before)) f before list
+      → StoredAs (lookedUp (readsAs xs) (length xs) (λ x. lies (readingOf kind) low high (meant kind x)) first end (length before)) f before list
 
 -- from bytes that were opened: a column that is spelled as short as can be and gives back the list, and through any window in it that part of the list
 pub record ReturnedAs (kind : Kind) (xs s : List ℕ) (after : List Block) (a : Opened) : Type 0 where
@@ -80,8 +80,8 @@ shows-as kind xs bytes table after o left back =
       count = back .count;
       rows = λ (r : ℕ) (h : r < length xs) (b : RowRead) (f : rowMeaning b ≡ rowAt (o .column) after bytes r).
           rw (f, left) (back .rows r h);
-      found = λ (low high : readingOf kind .Value) (range : Range) (covers : Covers (readingOf kind) low high range) (first end : ℕ) (before list : List ℕ) (f : Found).
-          subst (λ (x : Outcome (List ℕ)). FoundAs x f before list)
+      found = λ (low high : readingOf kind .Value) (range : Range) (covers : Covers (readingOf kind) low high range) (first end : ℕ) (before list : List ℕ) (f : Stored).
+          subst (λ (x : Outcome (List ℕ)). StoredAs x f before list)
           (sym (covered-lookup (readingOf kind) low high range covers (rowAt (o .column) after bytes) (row-words (o .column) after bytes) (o .column .window .rows) first end (length before))
           ∙ rw left (back .found low high first end (length before)));
     }
@@ -101,7 +101,7 @@ returned-as kind xs cs bytes table after room each e enough a opened-as =
     }
 
 -- demand 2, of the calls: what `serialize_as` wrote, opened with any table that has room, gives back the list
-pub typed-return : (kind : Kind) (xs cs out written-out : List ℕ) (n : ℕ) → AllBelow (2 ^ 64) xs → SerializedAs (written (storedAs kind xs) cs (length out)) (Length n) out written-out
+pub typed-return : (kind : Kind) (xs cs out written-out : List ℕ) (n : ℕ) → AllBelow (2 ^ 64) xs → StoredAs (written (storedAs kind xs) cs (length out)) (Entries n) out written-out
     → (table after : List Block) → blockCount (length xs) ≤ length table
     → (a : Opened) → OpenedAs (opened (take n written-out) (length table)) a table after → ReturnedAs kind xs (take n written-out) after a
 typed-return kind xs cs out written-out n each wrote table after enough a opened-as =
@@ -124,7 +124,7 @@ typed-accept kind xs cs j few known h applies =
     calls-accept (storedAs kind xs) cs j (omega (arith, few, stored-length kind xs)) known h (applies-as kind xs (getD cs j 0) applies)
 
 -- the same under either sheet
-pub typed-pass : (kind : Kind) (xs cs out written-out : List ℕ) (n : ℕ) → AllBelow (2 ^ 64) xs → SerializedAs (written (storedAs kind xs) cs (length out)) (Length n) out written-out
+pub typed-pass : (kind : Kind) (xs cs out written-out : List ℕ) (n : ℕ) → AllBelow (2 ^ 64) xs → StoredAs (written (storedAs kind xs) cs (length out)) (Entries n) out written-out
     → (table after : List Block) → blockCount (length xs) ≤ length table → (sheet : ℕ) → 0 < sheet → sheet ≤ 2
     → (a : Opened) → OpenedAs (openedUnder sheet (take n written-out) (length table)) a table after → ReturnedAs kind xs (take n written-out) after a
 typed-pass kind xs cs out written-out n each wrote table after enough sheet more known a opened-as =
@@ -159,21 +159,21 @@ module _ (xs s : List ℕ) (after : List Block) (c : Column) where
 -- ---- looking up by values, in any column
 
 -- what `lookup` answers by a range of stored numbers that covers some values
-pub looked-by : (R : Reading) (low high : R .Value) (range : Range) → Covers R low high range → (c : Column) (table : List Block) (bytes : List ℕ) (first end : ℕ) (found list : List ℕ) (f : Found)
-    → FoundAs (lookedUp (rowAt c table bytes) (c .window .rows) (within (range .low) (range .high)) first end (length found)) f found list
-    → FoundAs (lookedUp (rowAt c table bytes) (c .window .rows) (between R low high) first end (length found)) f found list
+pub looked-by : (R : Reading) (low high : R .Value) (range : Range) → Covers R low high range → (c : Column) (table : List Block) (bytes : List ℕ) (first end : ℕ) (found list : List ℕ) (f : Stored)
+    → StoredAs (lookedUp (rowAt c table bytes) (c .window .rows) (within (range .low) (range .high)) first end (length found)) f found list
+    → StoredAs (lookedUp (rowAt c table bytes) (c .window .rows) (between R low high) first end (length found)) f found list
 looked-by R low high range covers c table bytes first end found list f =
-    subst (λ (x : Outcome (List ℕ)). FoundAs x f found list)
+    subst (λ (x : Outcome (List ℕ)). StoredAs x f found list)
     (sym (covered-lookup R low high range covers (rowAt c table bytes) (row-words c table bytes) (c .window .rows) first end (length found)))
 
-module _ (c : Column) (table : List Block) (bytes : List ℕ) (first end : ℕ) (found list : List ℕ) (f : Found) where
+module _ (c : Column) (table : List Block) (bytes : List ℕ) (first end : ℕ) (found list : List ℕ) (f : Stored) where
   -- looking up a range
   abbrev FoundIn : Range → Type 0
-  FoundIn range = FoundAs (lookedUp (rowAt c table bytes) (c .window .rows) (within (range .low) (range .high)) first end (length found)) f found list
+  FoundIn range = StoredAs (lookedUp (rowAt c table bytes) (c .window .rows) (within (range .low) (range .high)) first end (length found)) f found list
 
   -- looking up the values from low to high
   abbrev FoundBy : (R : Reading) → (low high : R .Value) → Type 0
-  FoundBy R low high = FoundAs (lookedUp (rowAt c table bytes) (c .window .rows) (between R low high) first end (length found)) f found list
+  FoundBy R low high = StoredAs (lookedUp (rowAt c table bytes) (c .window .rows) (between R low high) first end (length found)) f found list
 
   -- of signed numbers and dates, in the range of an i64
   pub signed-looked : (low high : ℤ) → mag low < 2 ^ 63 → mag high < 2 ^ 63 → FoundIn (signedRange low high) → FoundBy signeds low high

@@ -27,10 +27,8 @@ use Rattle.format.proofs.Opened as O
 use Rattle.format.proofs.Opened.Laws as O′
 use Rattle.format.proofs.RowRead as A
 use Rattle.format.proofs.RowRead.Laws as A′
-use Rattle.format.proofs.RunRead as R
-use Rattle.format.proofs.RunRead.Laws as R′
-use Rattle.format.proofs.Found as F
-use Rattle.format.proofs.Found.Laws as F′
+use Rattle.format.proofs.Stored as F
+use Rattle.format.proofs.Stored.Laws as F′
 use Rattle.blockwise_linear.proofs.reader.Cursor as K
 use Rattle.blockwise_linear.proofs.reader.Cursor.Laws as K′
 use Rattle.blockwise_linear.proofs.reader.Step as S
@@ -56,11 +54,8 @@ rowRead = enum A.the-type A′.the-laws tt A′.the-plain
 abbrev pub window : Data
 window = struct P.the-type P′.the-laws P′.the-plain
 
-abbrev pub runRead : Data
-runRead = enum R.the-type R′.the-laws tt R′.the-plain
-
-abbrev pub found : Data
-found = enum F.the-type F′.the-laws tt F′.the-plain
+abbrev pub stored : Data
+stored = enum F.the-type F′.the-laws tt F′.the-plain
 
 abbrev pub walk : Data
 walk = struct W.the-type W′.the-laws W′.the-plain

@@ -12,15 +12,14 @@ ghost use Rattle.format.specs.Sheets.{openedUnder};
 ghost use Rattle.format.specs.Lookup.{lookedUp, within};
 ghost use Rattle.format.specs.Reading.{noBlock, columnRow, blockAt, rowAt};
 ghost use Rattle.format.specs.Runs.{decoded};
-ghost use Rattle.format.specs.Calls.{OpenedAs, FoundAs, RunAs};
+ghost use Rattle.format.specs.Calls.{OpenedAs, StoredAs};
 ghost use Rattle.blockwise_linear.specs.Reader.{firstCursor, blocksFrom, listed, Fillable};
 use format::Block;
 use format::Column;
-use format::Found;
 use format::Line;
 use format::Opened;
 use format::RowRead;
-use format::RunRead;
+use format::Stored;
 use format::WindowRow;
 
 // The block of a table that has none.
@@ -76,8 +75,8 @@ pub fn lookup(
     first: u32,
     end: u32,
     found: &mut [u32],
-) -> Found
-    ensures { λ r. ⌜ FoundAs (lookedUp (rowAt column (now (table .entry)) (now (bytes .entry))) (column .window .rows) (within low high) first end (length (now (found .entry)))) r (now (found .entry)) (now (found .exit)) ⌝ }
+) -> Stored
+    ensures { λ r. ⌜ StoredAs (lookedUp (rowAt column (now (table .entry)) (now (bytes .entry))) (column .window .rows) (within low high) first end (length (now (found .entry)))) r (now (found .entry)) (now (found .exit)) ⌝ }
 {
     let blocks = table.len();
     let window = column.window;
@@ -87,12 +86,12 @@ pub fn lookup(
         let block = block_at(table, k);
         w = read_lookup::step(column, blocks, block, bytes, low, high, w, found);
     }
-    read_lookup::answer(w)
+    read_walk::answer(w)
 }
 
 // The values of the window's rows from `first` on, as many as the lent list has entries, into that list.
-pub fn run(column: Column, table: &[Block], bytes: &[u8], first: u32, out: &mut [u64]) -> RunRead
-    ensures { λ r. ⌜ RunAs (decoded (rowAt column (now (table .entry)) (now (bytes .entry))) (column .window .rows) first (length (now (out .entry)))) r (now (out .entry)) (now (out .exit)) ⌝ }
+pub fn run(column: Column, table: &[Block], bytes: &[u8], first: u32, out: &mut [u64]) -> Stored
+    ensures { λ r. ⌜ StoredAs (decoded (rowAt column (now (table .entry)) (now (bytes .entry))) (column .window .rows) first (length (now (out .entry)))) r (now (out .entry)) (now (out .exit)) ⌝ }
 {
     let blocks = table.len();
     let rows = out.len();
@@ -103,7 +102,7 @@ pub fn run(column: Column, table: &[Block], bytes: &[u8], first: u32, out: &mut 
         let block = block_at(table, k);
         w = read_run::step(column, blocks, block, bytes, w, out);
     }
-    read_run::answer(w)
+    read_walk::answer(w)
 }
 
 // Internal: asks for blocks that were checked, and for room. The blocks of so many rows are put into the table, one after another.

@@ -10,13 +10,13 @@ use lib.ListN.{length, take, getD}
 use Rattle.format.specs.declared.Block.{Block}
 use Rattle.format.specs.declared.Checked.{Checked}
 use Rattle.format.specs.declared.Checked.the-variants.{Passed}
-use Rattle.format.specs.declared.Found.{Found}
+use Rattle.format.specs.declared.Stored.{Stored}
 use Rattle.format.specs.declared.Kind.{Kind}
 use Rattle.format.specs.declared.RowRead.{RowRead}
 use Rattle.format.specs.declared.RowRead.the-variants.{Value}
-use Rattle.format.specs.declared.Written.the-variants.{Length}
+use Rattle.format.specs.declared.Stored.the-variants.{Entries}
 use Rattle.format.specs.Bodies.{blockCount}
-use Rattle.format.specs.Calls.{FoundAs, SerializedAs}
+use Rattle.format.specs.Calls.{StoredAs}
 use Rattle.format.specs.Checking.{Verdict.passed, checked}
 use Rattle.format.specs.Demands.{filledBy, readsAs}
 use Rattle.format.specs.Lookup.{lookedUp, within}
@@ -50,9 +50,9 @@ pub record PassedFor (sheet : ℕ) (s : List ℕ) (table after : List Block) (vs
   pub filled : after ≡ filledBy loaded table
   pub count : loaded .column .rows ≡ length vs
   pub rows : (r : ℕ) → r < length vs → (b : RowRead) → rowMeaning b ≡ rowAt (loaded .column) after s r → b ≡ Value (getD vs r 0)
-  pub found : (low high first end : ℕ) (before list : List ℕ) (f : Found)
-      → FoundAs (lookedUp (rowAt (loaded .column) after s) (loaded .column .rows) (within low high) first end (length before)) f before list
-      → FoundAs (lookedUp (readsAs vs) (length vs) (within low high) first end (length before)) f before list
+  pub found : (low high first end : ℕ) (before list : List ℕ) (f : Stored)
+      → StoredAs (lookedUp (rowAt (loaded .column) after s) (loaded .column .rows) (within low high) first end (length before)) f before list
+      → StoredAs (lookedUp (readsAs vs) (length vs) (within low high) first end (length before)) f before list
   pub minimum : loaded .column .minimum ≡ statsOf vs .minimum
   pub gcd : loaded .column .gcd ≡ statsOf vs .gcd
   pub maximum : loaded .column .minimum + loaded .column .gcd * loaded .column .count ≡ statsOf vs .maximum
@@ -74,7 +74,7 @@ module _ (sheet : ℕ) (s : List ℕ) (table after : List Block) (vs : List ℕ)
             count = m .count;
             rows = λ r h b e. row-injective b (Value (getD vs r 0)) (e ∙ each r h);
             found = λ low high first end before list g.
-                subst (λ (x : Outcome (List ℕ)). FoundAs x g before list)
+                subst (λ (x : Outcome (List ℕ)). StoredAs x g before list)
                 (ap (λ (n : ℕ). lookedUp (rowAt (o .column) after s) n (within low high) first end (length before)) (m .count)
                 ∙ looked-agree (rowAt (o .column) after s) (readsAs vs) (length vs) (within low high) first end (length before) (λ x p q. each x q));
             minimum = m .least;
@@ -91,7 +91,7 @@ module _ (sheet : ℕ) (s : List ℕ) (table after : List Block) (vs : List ℕ)
 
 -- ---- what was written
 
-pub calls-passed : (kind : Kind) (xs cs out written-out : List ℕ) (n : ℕ) → AllBelow (2 ^ 64) xs → SerializedAs (written (storedAs kind xs) cs (length out)) (Length n) out written-out
+pub calls-passed : (kind : Kind) (xs cs out written-out : List ℕ) (n : ℕ) → AllBelow (2 ^ 64) xs → StoredAs (written (storedAs kind xs) cs (length out)) (Entries n) out written-out
     → (table after : List Block) → blockCount (length xs) ≤ length table → (sheet : ℕ) → 0 < sheet → sheet ≤ 2
     → (r : Checked) → CheckedAs (openedUnder sheet (take n written-out) (length table)) (take n written-out) (storedAs kind xs) r table after → r ≡ Passed
 calls-passed kind xs cs out written-out n each wrote table after enough sheet more known r f =

@@ -5,9 +5,10 @@ ghost use Prim.Native.Nat.{_≤_, _<_};
 ghost use lib.ListN.{length};
 use format::Checked;
 use format::Kind;
-use format::Written;
+use format::Stored;
 use libc::STDOUT_FILENO;
 use text::lines::named_line;
+use tool_files::cases::length_at;
 
 // The longest list, the longest column, and the blocks of such a list.
 const VALUES: usize = 1056;
@@ -64,12 +65,12 @@ fn begins_with(out: &[u8; BYTES], column: &[u8]) -> bool {
 fn show_written(kind: Kind, values: &[u64], codecs: &[u8], column: &[u8]) {
     let mut out = [0u8; BYTES];
     match u64_based::serialize_as(kind, values, codecs, &mut out) {
-        Written::Refused(why) => {
+        Stored::Refused(why) => {
             let mut line = [0u8; 128];
             let n = named_line(b"refused ", why.number() as u64, &mut line);
             io::write_all(STDOUT_FILENO, &line[..n]);
         }
-        Written::Length(n) => {
+        Stored::Entries(n) => {
             if n == column.len() && begins_with(&out, column) {
                 io::write_all(STDOUT_FILENO, b"written as stored\n");
             } else {

@@ -8,8 +8,8 @@ use mathlib.Core.List.{List, [], _∷_, map}
 use borrow.Author.Tests.{le-leb}
 use lib.ListN.{length}
 use lib.Seq.{sets}
-use Rattle.format.specs.declared.Written.{Written}
-use Rattle.format.specs.declared.Written.the-variants.{Length}
+use Rattle.format.specs.declared.Stored.{Stored}
+use Rattle.format.specs.declared.Stored.the-variants.{Entries}
 use Rattle.format.specs.Outcome.{Outcome}
 use Rattle.format.specs.Varint.{spell, spellIn}
 use Rattle.format.specs.Packing.{width, bitLength, bitsIn, packed, bytesOf, rowsBits, bitsOf, numOf, numBytes}
@@ -18,9 +18,9 @@ use Rattle.format.specs.Line.{lineAt, trained, rising, height, slopeOf, nearer,
 use Rattle.format.specs.Bodies.{body, bitpacked, blockwise, blocks, blocksIn, blockArea, blockEntry, blockWidth, blockResiduals, joined, footer}
 use Rattle.format.specs.Saving.{saving, exponentOf, lastReached, powerBounds, reaches, inF32, nearest}
 use Rattle.format.specs.Writing.{written, known, chosen, sizeOf, blockSize, blockSizes}
-use Rattle.format.proofs.Answers.{written-injective}
+use Rattle.format.proofs.Answers.{stored-injective}
 use Rattle.write_codec.specs.Writing.{lent}
-use Rattle.format.specs.Calls.{SerializedAs}
+use Rattle.format.specs.Calls.{StoredAs}
 
 pub record Case : Type 0 where
   pub values : List ℕ
@@ -30,8 +30,8 @@ pub record Case : Type 0 where
 -- whatever the contract allows is the case's bytes
 abbrev pub Writes : Case → Type 0
 Writes c =
-    (before after : List ℕ) (r : Written) → length (c .bytes) ≤ length before → SerializedAs (written (c .values) (c .codecs) (length before)) r before after
-    → (r ≡ Length (length (c .bytes))) × (after ≡ sets before 0 (c .bytes))
+    (before after : List ℕ) (r : Stored) → length (c .bytes) ≤ length before → StoredAs (written (c .values) (c .codecs) (length before)) r before after
+    → (r ≡ Entries (length (c .bytes))) × (after ≡ sets before 0 (c .bytes))
 
 abbrev pub All : List Case → Type 0
 All [] = Unit {0}
@@ -64,7 +64,7 @@ by-definition : (c : Case) → ((room : ℕ) → written (c .values) (c .codecs)
 by-definition c is before after r room left =
     let met = le-leb (length (c .bytes)) (length before) room in
     let told = rw (is (length before), met) at left in
-    (written-injective r (Length (length (c .bytes))) (told .answer), told .list)
+    (stored-injective r (Entries (length (c .bytes))) (told .answer), told .list)
 
 -- what the definition gives for a case in some room, and what it should
 abbrev given : (room : ℕ) → Case → Outcome (List ℕ)

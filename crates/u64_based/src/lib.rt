@@ -6,11 +6,11 @@ ghost use Rattle.format.specs.Refusals.{statedMeaning};
 ghost use Rattle.format.specs.Stats.{stated};
 ghost use Rattle.format.specs.Writing.{written};
 ghost use Rattle.format.specs.Typed.{storedAs};
-ghost use Rattle.format.specs.Calls.{SerializedAs};
+ghost use Rattle.format.specs.Calls.{StoredAs};
 use format::Kind;
 use format::Refusal;
 use format::Stated;
-use format::Written;
+use format::Stored;
 use write_codec::choice::Choice;
 use write_codec::choice::Place;
 
@@ -32,26 +32,26 @@ pub fn column_stats_as(kind: Kind, values: &[u64]) -> Stated
 }
 
 // Writes the values by the listed codec that takes least.
-pub fn serialize(values: &[u64], codecs: &[u8], out: &mut [u8]) -> Written
-    ensures { λ r. ⌜ SerializedAs (written (now (values .entry)) (now (codecs .entry)) (length (now (out .entry)))) r (now (out .entry)) (now (out .exit)) ⌝ }
+pub fn serialize(values: &[u64], codecs: &[u8], out: &mut [u8]) -> Stored
+    ensures { λ r. ⌜ StoredAs (written (now (values .entry)) (now (codecs .entry)) (length (now (out .entry)))) r (now (out .entry)) (now (out .exit)) ⌝ }
 {
     serialize_as(Kind::U64, values, codecs, out)
 }
 
 // Writes values of a kind, as the numbers that they are stored as. Each pass over them reads a value as its stored number; no list of
 // those is made.
-pub fn serialize_as(kind: Kind, values: &[u64], codecs: &[u8], out: &mut [u8]) -> Written
-    ensures { λ r. ⌜ SerializedAs (written (storedAs kind (now (values .entry))) (now (codecs .entry)) (length (now (out .entry)))) r (now (out .entry)) (now (out .exit)) ⌝ }
+pub fn serialize_as(kind: Kind, values: &[u64], codecs: &[u8], out: &mut [u8]) -> Stored
+    ensures { λ r. ⌜ StoredAs (written (storedAs kind (now (values .entry))) (now (codecs .entry)) (length (now (out .entry)))) r (now (out .entry)) (now (out .exit)) ⌝ }
 {
     if 0xffff_ffff < values.len() {
-        return Written::Refused(Refusal::TooManyValues);
+        return Stored::Refused(Refusal::TooManyValues);
     }
     if let Place::At(place) = write_codec::choice::unknown(codecs) {
-        return Written::Refused(Refusal::UnknownCodec { place });
+        return Stored::Refused(Refusal::UnknownCodec { place });
     }
     let stats = stats_collector::collect(kind, values);
     match write_codec::choice::codec_for(kind, values, stats, codecs) {
-        Choice::Nothing => Written::Refused(Refusal::NoCodecApplies),
+        Choice::Nothing => Stored::Refused(Refusal::NoCodecApplies),
         Choice::By(codec) => write_codec::writer::put(kind, values, stats, codec, out),
     }
 }

@@ -14,7 +14,7 @@ use Rattle.format.specs.declared.Codec.{Codec}
 use Rattle.format.specs.declared.ColumnStats.{ColumnStats}
 use Rattle.format.specs.declared.Kind.the-variants.{U64}
 use Rattle.format.specs.declared.Refusal.the-variants.{TooManyValues, UnknownCodec, NoCodecApplies, OutputShort}
-use Rattle.format.specs.declared.Written.the-variants.{Length, Refused}
+use Rattle.format.specs.declared.Stored.the-variants.{Entries, Refused}
 use Rattle.format.specs.Outcome.{Outcome, Outcome.value, Outcome.refusal, Wrote}
 use Rattle.format.specs.Stats.{statsOf}
 use Rattle.format.specs.Listing.{codeOf}
@@ -29,18 +29,18 @@ use Rattle.write_codec.specs.declared.choice.Place.{Place}
 use Rattle.write_codec.specs.declared.choice.Place.the-variants.{At, Nowhere}
 use Rattle.write_codec.specs.Choice.{placeMeaning, choiceMeaning, AptCodec, Names}
 use Rattle.write_codec.specs.Writing.{lent}
-use Rattle.format.specs.Calls.{StoresAs, SerializedAs}
+use Rattle.format.specs.Calls.{StoresAs, StoredAs}
 
 -- an output that is too short
 pub too-short : (column old : List ℕ) (needed : ℕ) → needed ≡ length column → length old < needed
-    → SerializedAs (lent column (length old)) (Refused (OutputShort needed)) old old
+    → StoredAs (lent column (length old)) (Refused (OutputShort needed)) old old
 too-short column old needed e h =
     let short = lt-leb (length column) (length old) (omega arith) in
     record { answer = rw (short, e); list = rw short }
 
 -- the code byte, and the body behind it
 pub put-behind : (code : ℕ) (bytes old : List ℕ) {new : List ℕ} (needed : ℕ) {n : ℕ} → needed ≡ suc (length bytes) → needed ≤ length old
-    → Wrote (set old 0 code) 1 bytes new n → SerializedAs (lent (code ∷ bytes) (length old)) (Length n) old new
+    → Wrote (set old 0 code) 1 bytes new n → StoredAs (lent (code ∷ bytes) (length old)) (Entries n) old new
 put-behind code bytes old needed e h w =
     let enough = le-leb (suc (length bytes)) (length old) (omega arith) in
     record { answer = rw (enough, w .ends, one (length bytes)); list = rw enough (w .list) }
@@ -54,12 +54,12 @@ pub chosen-apt : {vs : List ℕ} {o : Outcome ℕ} {c : Choice} {codec : Codec} 
 chosen-apt named is = rw is at (named .apt)
 
 module _ (vs cs old : List ℕ) where
-  pub too-many : 2 ^ 32 ≤ length vs → SerializedAs (written vs cs (length old)) (Refused TooManyValues) old old
+  pub too-many : 2 ^ 32 ≤ length vs → StoredAs (written vs cs (length old)) (Refused TooManyValues) old old
   unfolding written
   too-many h = record { answer = rw (le-ltb (length vs) (2 ^ 32) h); list = rw (le-ltb (length vs) (2 ^ 32) h) }
 
   module _ (few : length vs < 2 ^ 32) {p : Place} (sought : placeMeaning p ≡ known 0 cs) where
-    pub unknown-byte : {i : ℕ} → p ≡ At i → SerializedAs (written vs cs (length old)) (Refused (UnknownCodec i)) old old
+    pub unknown-byte : {i : ℕ} → p ≡ At i → StoredAs (written vs cs (length old)) (Refused (UnknownCodec i)) old old
     unfolding written
     unknown-byte {i} is =
         let found = told placeMeaning sought is in
@@ -69,7 +69,7 @@ module _ (vs cs old : List ℕ) where
       choice : codecOf (chosen (λ c. sizeOf c (statsOf vs) vs) cs) ≡ choiceMeaning b
       choice = rw (← stats) (sym (named .means))
 
-      pub none-applies : b ≡ Nothing → SerializedAs (written vs cs (length old)) (Refused NoCodecApplies) old old
+      pub none-applies : b ≡ Nothing → StoredAs (written vs cs (length old)) (Refused NoCodecApplies) old old
       unfolding written
       none-applies is =
           let chose : codecOf (chosen (λ c. sizeOf c (statsOf vs) vs) cs) ≡ refusal 3 [] = choice ∙ ap choiceMeaning is in

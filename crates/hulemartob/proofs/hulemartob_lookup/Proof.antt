@@ -8,10 +8,10 @@ use Rattle.hulemartob.proofs.Types.{numbers}
 use Rattle.proof_walk.proofs.Locals.{filled, leaves}
 use Rattle.proof_walk.proofs.Whole.{calls, lands-at, ends, meets}
 use Rattle.format.specs.declared.Column.{Column}
-use Rattle.format.specs.Calls.{FoundAs}
+use Rattle.format.specs.Calls.{StoredAs}
 use Rattle.format.specs.Lookup.{lookedUp, within}
 use Rattle.format.specs.Reading.{rowAt}
-use Rattle.format.specs.Refusals.{foundMeaning}
+use Rattle.format.specs.Refusals.{storedMeaning}
 use Rattle.table.proofs.Types as Ty
 use Rattle.c_numbers.specs.Numbers.{after, columnFrom, madeMeaning, columnOf, Answers}
 use Rattle.hulemartob.proofs.Types as T′
@@ -28,10 +28,10 @@ use Rattle.table.proofs.lookup as lk
 use Rattle.table.proofs.lookup.Symbol as lk-def
 use Rattle.table.proofs.lookup.Symbol.{name as #table·lookup}
 use Rattle.table.proofs.lookup.Met as lk-thm
-use Rattle.c_answers.proofs.found_told as ft
-use Rattle.c_answers.proofs.found_told.Symbol as ft-def
-use Rattle.c_answers.proofs.found_told.Symbol.{name as #c-answers·found-told}
-use Rattle.c_answers.proofs.found_told.Met as ft-thm
+use Rattle.c_answers.proofs.entries_told as ft
+use Rattle.c_answers.proofs.entries_told.Symbol as ft-def
+use Rattle.c_answers.proofs.entries_told.Symbol.{name as #c-answers·entries-told}
+use Rattle.c_answers.proofs.entries_told.Met as ft-thm
 use Rattle.hulemartob.proofs.hulemartob_lookup.Key.{name as #hulemartob·hulemartob-lookup}
 use Rattle.hulemartob.proofs.hulemartob_lookup as f
 use Rattle.hulemartob.proofs.hulemartob_lookup.Statement as stated
@@ -51,7 +51,7 @@ module _ {M : Type 1} (𝓤 : URA M) (H : Heap 𝓤) (A : Atoms 𝓤) (mem : Mem
   abbrev Told : Contract 𝓤
   Told = tripleOf 𝓤 H A ft.signature (ft.spec 𝓤 H A mem run)
 
-  walk : (W : Given 𝓤 H A) (𝓣 : Tables 𝓤 H) → Triple 𝓤 (𝓣 .C #c-numbers·column-from) From → Triple 𝓤 (𝓣 .C #c-numbers·column-of) Of → Triple 𝓤 (𝓣 .C #table·lookup) Looked → Triple 𝓤 (𝓣 .C #c-answers·found-told) Told → Triple 𝓤 (WpFn 𝓤 H (𝓣 .C) (𝓣 .Λ) code.function) (tripleOf 𝓤 H A f.signature (f.spec 𝓤 H A mem run))
+  walk : (W : Given 𝓤 H A) (𝓣 : Tables 𝓤 H) → Triple 𝓤 (𝓣 .C #c-numbers·column-from) From → Triple 𝓤 (𝓣 .C #c-numbers·column-of) Of → Triple 𝓤 (𝓣 .C #table·lookup) Looked → Triple 𝓤 (𝓣 .C #c-answers·entries-told) Told → Triple 𝓤 (WpFn 𝓤 H (𝓣 .C) (𝓣 .Λ) code.function) (tripleOf 𝓤 H A f.signature (f.spec 𝓤 H A mem run))
   walk W 𝓣 known-cf known-co known-lk known-ft =
       meets 𝓤 H A W (𝓣 .C) (𝓣 .Λ) f.ended (f.clauses 𝓤 H A mem run) code.function
       (λ κs. (ptr-vals, (slice-vals, (slice-vals, (uint-vals w64, (uint-vals w64, (uint-vals w32, (uint-vals w32, (slice-vals, (ptr-vals, tt))))))))))
@@ -67,12 +67,12 @@ module _ {M : Type 1} (𝓤 : URA M) (H : Heap 𝓤) (A : Atoms 𝓤) (mem : Mem
       assigns ! (addr ! (from ! (fld ! refl (hop ! (look-in ! 14 (sub ! 0 refl (whole !))) (stop !))))) (from ! (stop !)) (init ! 4 refl (tt, tt)) $
       assigns ! (agg ! (and-then ! (load ! (from ! (stop !)) (look ! 4 refl)) (and-then ! (load ! (from ! (fld ! refl (stop !))) (look-in ! 14 (sub ! 1 refl (whole !)))) (no-more !)))) (from ! (stop !)) (init ! 2 refl (tt, (tt, (record { fits = are .1 .1 .1 .1 .1 .1 .1 .0 .0 .1 .0 }, tt)))) $
       have ! Ty.column c c-fits $ move ! (33 ∷ 34 ∷ 35 ∷ 0 ∷ 37 ∷ 38 ∷ 39 ∷ 40 ∷ 41 ∷ 42 ∷ 43 ∷ []) $ calls ! fm lk.ended (lk.clauses 𝓤 H A mem run) known-lk ((κs .1 .0, (κs .1 .1 .0, (κs .1 .1 .1 .0, tt))), (qs .1 .0, (qs .1 .1 .0, (qs .1 .1 .1 .0, tt))), tt, (c, (table, (bytes, (low, (high, (first, (end, (found, tt)))))))), (vals Ty.column c, (slice-vals table, (slice-vals bytes, (uint-vals w64 low, (uint-vals w64 high, (uint-vals w32 first, (uint-vals w32 end, (slice-vals found, tt))))))))) tt (id⊢ 𝓤 _)
-      (λ answer answer-last. FoundAs (lookedUp (rowAt c (table .now) (bytes .now)) (c .window .rows) (within low high) first end (length (found .now))) answer (found .now) (answer-last .1 .1 .1 .1 .1 .1 .1 .0)) (λ _ _. id⊢ 𝓤 _) (Ty.found .val) (Ty.found .tells) refl
-      (and-then ! (load ! (from ! (stop !)) (look ! 9 refl)) (and-then ! (load ! (from ! (stop !)) (look ! 27 refl)) (and-then ! (load ! (from ! (stop !)) (look ! 25 refl)) (and-then ! (load ! (from ! (stop !)) (look ! 23 refl)) (and-then ! (load ! (from ! (stop !)) (look ! 21 refl)) (and-then ! (load ! (from ! (stop !)) (look ! 19 refl)) (and-then ! (load ! (from ! (stop !)) (look ! 17 refl)) (and-then ! (load ! (from ! (stop !)) (look ! 3 refl)) (no-more !))))))))) (λ answer answer-last answer-is answer-fits. lands-at ! 6 refl (typed W Ty.found answer _ answer-fits .0) $
+      (λ answer answer-last. StoredAs (lookedUp (rowAt c (table .now) (bytes .now)) (c .window .rows) (within low high) first end (length (found .now))) answer (found .now) (answer-last .1 .1 .1 .1 .1 .1 .1 .0)) (λ _ _. id⊢ 𝓤 _) (Ty.stored .val) (Ty.stored .tells) refl
+      (and-then ! (load ! (from ! (stop !)) (look ! 9 refl)) (and-then ! (load ! (from ! (stop !)) (look ! 27 refl)) (and-then ! (load ! (from ! (stop !)) (look ! 25 refl)) (and-then ! (load ! (from ! (stop !)) (look ! 23 refl)) (and-then ! (load ! (from ! (stop !)) (look ! 21 refl)) (and-then ! (load ! (from ! (stop !)) (look ! 19 refl)) (and-then ! (load ! (from ! (stop !)) (look ! 17 refl)) (and-then ! (load ! (from ! (stop !)) (look ! 3 refl)) (no-more !))))))))) (λ answer answer-last answer-is answer-fits. lands-at ! 6 refl (typed W Ty.stored answer _ answer-fits .0) $
       -- the answer is told
       assigns ! (addr ! (from ! (hop ! (look ! 12 refl) (stop !)))) (from ! (stop !)) (init ! 0 refl (tt, tt)) $
-      have ! Ty.found answer answer-fits $ have ! T′.made made made-fits $ move ! (34 ∷ 0 ∷ 1 ∷ 35 ∷ []) $ calls ! fm ft.ended (ft.clauses 𝓤 H A mem run) known-ft ((κs .1 .1 .1 .1 .0, tt), (qs .1 .1 .1 .1 .0, tt), tt, (made, (answer, (refusal, tt))), (vals T′.made made, (vals Ty.found answer, (ptr-vals refusal, tt)))) tt (id⊢ 𝓤 _)
-      (λ v v-last. Answers (after (madeMeaning made) (foundMeaning answer)) v (v-last .1 .1 .0)) (λ _ _. id⊢ 𝓤 _) (number w64 .val) (number w64 .tells) refl
+      have ! Ty.stored answer answer-fits $ have ! T′.made made made-fits $ move ! (34 ∷ 0 ∷ 1 ∷ 35 ∷ []) $ calls ! fm ft.ended (ft.clauses 𝓤 H A mem run) known-ft ((κs .1 .1 .1 .1 .0, tt), (qs .1 .1 .1 .1 .0, tt), tt, (made, (answer, (refusal, tt))), (vals T′.made made, (vals Ty.stored answer, (ptr-vals refusal, tt)))) tt (id⊢ 𝓤 _)
+      (λ v v-last. Answers (after (madeMeaning made) (storedMeaning answer)) v (v-last .1 .1 .0)) (λ _ _. id⊢ 𝓤 _) (number w64 .val) (number w64 .tells) refl
       (and-then ! (load ! (from ! (stop !)) (look ! 11 refl)) (and-then ! (load ! (from ! (stop !)) (look ! 7 refl)) (and-then ! (load ! (from ! (stop !)) (look ! 1 refl)) (no-more !)))) (λ v v-last v-is v-fits. lands-at ! 30 refl (typed W (number w64) v _ v-fits .0) $
       returns ! (look ! 30 refl) $ leaves ! (filled 16 _) refl $ have ! (number w64) v v-fits $ move ! (2 ∷ 5 ∷ 6 ∷ 7 ∷ 16 ∷ 3 ∷ 9 ∷ 10 ∷ 11 ∷ 12 ∷ 13 ∷ 14 ∷ 15 ∷ 19 ∷ 0 ∷ []) $
       ends ! f.ended (f.clauses 𝓤 H A mem run) κs qs a g (vint w64 v) v (tt, (tt, (tt, (tt, (tt, (tt, (tt, (answer-last .1 .1 .1 .1 .1 .1 .1 .0, (v-last .1 .1 .0, tt)))))))))
@@ -87,4 +87,4 @@ hulemartob-lookup-spec 𝓤 H 𝓜 𝓖 𝓡 =
     (cited 𝓤 H (From 𝓤 H (𝓖 .A) (𝓜 .mem) (𝓡 .run)) 𝓜 𝓡 code.env #c-numbers·column-from cf-def.routine code.calls-c-numbers·column-from (cf-thm.met 𝓤 H 𝓜 𝓖 𝓡))
     (cited 𝓤 H (Of 𝓤 H (𝓖 .A) (𝓜 .mem) (𝓡 .run)) 𝓜 𝓡 code.env #c-numbers·column-of co-def.routine code.calls-c-numbers·column-of (co-thm.met 𝓤 H 𝓜 𝓖 𝓡))
     (cited 𝓤 H (Looked 𝓤 H (𝓖 .A) (𝓜 .mem) (𝓡 .run)) 𝓜 𝓡 code.env #table·lookup lk-def.routine code.calls-table·lookup (lk-thm.met 𝓤 H 𝓜 𝓖 𝓡))
-    (cited 𝓤 H (Told 𝓤 H (𝓖 .A) (𝓜 .mem) (𝓡 .run)) 𝓜 𝓡 code.env #c-answers·found-told ft-def.routine code.calls-c-answers·found-told (ft-thm.met 𝓤 H 𝓜 𝓖 𝓡)))
+    (cited 𝓤 H (Told 𝓤 H (𝓖 .A) (𝓜 .mem) (𝓡 .run)) 𝓜 𝓡 code.env #c-answers·entries-told ft-def.routine code.calls-c-answers·entries-told (ft-thm.met 𝓤 H 𝓜 𝓖 𝓡)))

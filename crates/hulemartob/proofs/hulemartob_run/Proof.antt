@@ -8,9 +8,9 @@ use Rattle.hulemartob.proofs.Types.{numbers}
 use Rattle.proof_walk.proofs.Locals.{filled, leaves}
 use Rattle.proof_walk.proofs.Whole.{calls, lands-at, ends, meets}
 use Rattle.format.specs.declared.Column.{Column}
-use Rattle.format.specs.Calls.{RunAs}
+use Rattle.format.specs.Calls.{StoredAs}
 use Rattle.format.specs.Reading.{rowAt}
-use Rattle.format.specs.Refusals.{runMeaning}
+use Rattle.format.specs.Refusals.{storedMeaning}
 use Rattle.format.specs.Runs.{decoded}
 use Rattle.table.proofs.Types as Ty
 use Rattle.c_numbers.specs.Numbers.{after, columnFrom, madeMeaning, columnOf, Answers}
@@ -28,10 +28,10 @@ use Rattle.table.proofs.run as rn
 use Rattle.table.proofs.run.Symbol as rn-def
 use Rattle.table.proofs.run.Symbol.{name as #table·run}
 use Rattle.table.proofs.run.Met as rn-thm
-use Rattle.c_answers.proofs.run_told as rt
-use Rattle.c_answers.proofs.run_told.Symbol as rt-def
-use Rattle.c_answers.proofs.run_told.Symbol.{name as #c-answers·run-told}
-use Rattle.c_answers.proofs.run_told.Met as rt-thm
+use Rattle.c_answers.proofs.entries_told as rt
+use Rattle.c_answers.proofs.entries_told.Symbol as rt-def
+use Rattle.c_answers.proofs.entries_told.Symbol.{name as #c-answers·entries-told}
+use Rattle.c_answers.proofs.entries_told.Met as rt-thm
 use Rattle.hulemartob.proofs.hulemartob_run.Key.{name as #hulemartob·hulemartob-run}
 use Rattle.hulemartob.proofs.hulemartob_run as f
 use Rattle.hulemartob.proofs.hulemartob_run.Statement as stated
@@ -51,7 +51,7 @@ module _ {M : Type 1} (𝓤 : URA M) (H : Heap 𝓤) (A : Atoms 𝓤) (mem : Mem
   abbrev Told : Contract 𝓤
   Told = tripleOf 𝓤 H A rt.signature (rt.spec 𝓤 H A mem run)
 
-  walk : (W : Given 𝓤 H A) (𝓣 : Tables 𝓤 H) → Triple 𝓤 (𝓣 .C #c-numbers·column-from) From → Triple 𝓤 (𝓣 .C #c-numbers·column-of) Of → Triple 𝓤 (𝓣 .C #table·run) Ran → Triple 𝓤 (𝓣 .C #c-answers·run-told) Told → Triple 𝓤 (WpFn 𝓤 H (𝓣 .C) (𝓣 .Λ) code.function) (tripleOf 𝓤 H A f.signature (f.spec 𝓤 H A mem run))
+  walk : (W : Given 𝓤 H A) (𝓣 : Tables 𝓤 H) → Triple 𝓤 (𝓣 .C #c-numbers·column-from) From → Triple 𝓤 (𝓣 .C #c-numbers·column-of) Of → Triple 𝓤 (𝓣 .C #table·run) Ran → Triple 𝓤 (𝓣 .C #c-answers·entries-told) Told → Triple 𝓤 (WpFn 𝓤 H (𝓣 .C) (𝓣 .Λ) code.function) (tripleOf 𝓤 H A f.signature (f.spec 𝓤 H A mem run))
   walk W 𝓣 known-cf known-co known-rn known-rt =
       meets 𝓤 H A W (𝓣 .C) (𝓣 .Λ) f.ended (f.clauses 𝓤 H A mem run) code.function
       (λ κs. (ptr-vals, (slice-vals, (slice-vals, (uint-vals w32, (slice-vals, (ptr-vals, tt)))))))
@@ -67,12 +67,12 @@ module _ {M : Type 1} (𝓤 : URA M) (H : Heap 𝓤) (A : Atoms 𝓤) (mem : Mem
       assigns ! (addr ! (from ! (fld ! refl (hop ! (look-in ! 14 (sub ! 0 refl (whole !))) (stop !))))) (from ! (stop !)) (init ! 4 refl (tt, tt)) $
       assigns ! (agg ! (and-then ! (load ! (from ! (stop !)) (look ! 4 refl)) (and-then ! (load ! (from ! (fld ! refl (stop !))) (look-in ! 14 (sub ! 1 refl (whole !)))) (no-more !)))) (from ! (stop !)) (init ! 2 refl (tt, (tt, (record { fits = are .1 .1 .1 .1 .0 .0 .1 .0 }, tt)))) $
       have ! Ty.column c c-fits $ move ! (27 ∷ 28 ∷ 29 ∷ 0 ∷ 31 ∷ 32 ∷ 33 ∷ 34 ∷ []) $ calls ! fm rn.ended (rn.clauses 𝓤 H A mem run) known-rn ((κs .1 .0, (κs .1 .1 .0, (κs .1 .1 .1 .0, tt))), (qs .1 .0, (qs .1 .1 .0, (qs .1 .1 .1 .0, tt))), tt, (c, (table, (bytes, (first, (out, tt))))), (vals Ty.column c, (slice-vals table, (slice-vals bytes, (uint-vals w32 first, (slice-vals out, tt)))))) tt (id⊢ 𝓤 _)
-      (λ answer answer-last. RunAs (decoded (rowAt c (table .now) (bytes .now)) (c .window .rows) first (length (out .now))) answer (out .now) (answer-last .1 .1 .1 .1 .0)) (λ _ _. id⊢ 𝓤 _) (Ty.runRead .val) (Ty.runRead .tells) refl
-      (and-then ! (load ! (from ! (stop !)) (look ! 9 refl)) (and-then ! (load ! (from ! (stop !)) (look ! 21 refl)) (and-then ! (load ! (from ! (stop !)) (look ! 19 refl)) (and-then ! (load ! (from ! (stop !)) (look ! 17 refl)) (and-then ! (load ! (from ! (stop !)) (look ! 3 refl)) (no-more !)))))) (λ answer answer-last answer-is answer-fits. lands-at ! 6 refl (typed W Ty.runRead answer _ answer-fits .0) $
+      (λ answer answer-last. StoredAs (decoded (rowAt c (table .now) (bytes .now)) (c .window .rows) first (length (out .now))) answer (out .now) (answer-last .1 .1 .1 .1 .0)) (λ _ _. id⊢ 𝓤 _) (Ty.stored .val) (Ty.stored .tells) refl
+      (and-then ! (load ! (from ! (stop !)) (look ! 9 refl)) (and-then ! (load ! (from ! (stop !)) (look ! 21 refl)) (and-then ! (load ! (from ! (stop !)) (look ! 19 refl)) (and-then ! (load ! (from ! (stop !)) (look ! 17 refl)) (and-then ! (load ! (from ! (stop !)) (look ! 3 refl)) (no-more !)))))) (λ answer answer-last answer-is answer-fits. lands-at ! 6 refl (typed W Ty.stored answer _ answer-fits .0) $
       -- the answer is told
       assigns ! (addr ! (from ! (hop ! (look ! 12 refl) (stop !)))) (from ! (stop !)) (init ! 0 refl (tt, tt)) $
-      have ! Ty.runRead answer answer-fits $ have ! T′.made made made-fits $ move ! (28 ∷ 0 ∷ 1 ∷ 29 ∷ []) $ calls ! fm rt.ended (rt.clauses 𝓤 H A mem run) known-rt ((κs .1 .1 .1 .1 .0, tt), (qs .1 .1 .1 .1 .0, tt), tt, (made, (answer, (refusal, tt))), (vals T′.made made, (vals Ty.runRead answer, (ptr-vals refusal, tt)))) tt (id⊢ 𝓤 _)
-      (λ v v-last. Answers (after (madeMeaning made) (runMeaning answer)) v (v-last .1 .1 .0)) (λ _ _. id⊢ 𝓤 _) (number w64 .val) (number w64 .tells) refl
+      have ! Ty.stored answer answer-fits $ have ! T′.made made made-fits $ move ! (28 ∷ 0 ∷ 1 ∷ 29 ∷ []) $ calls ! fm rt.ended (rt.clauses 𝓤 H A mem run) known-rt ((κs .1 .1 .1 .1 .0, tt), (qs .1 .1 .1 .1 .0, tt), tt, (made, (answer, (refusal, tt))), (vals T′.made made, (vals Ty.stored answer, (ptr-vals refusal, tt)))) tt (id⊢ 𝓤 _)
+      (λ v v-last. Answers (after (madeMeaning made) (storedMeaning answer)) v (v-last .1 .1 .0)) (λ _ _. id⊢ 𝓤 _) (number w64 .val) (number w64 .tells) refl
       (and-then ! (load ! (from ! (stop !)) (look ! 11 refl)) (and-then ! (load ! (from ! (stop !)) (look ! 7 refl)) (and-then ! (load ! (from ! (stop !)) (look ! 1 refl)) (no-more !)))) (λ v v-last v-is v-fits. lands-at ! 24 refl (typed W (number w64) v _ v-fits .0) $
       returns ! (look ! 24 refl) $ leaves ! (filled 13 _) refl $ have ! (number w64) v v-fits $ move ! (2 ∷ 5 ∷ 6 ∷ 7 ∷ 13 ∷ 3 ∷ 9 ∷ 10 ∷ 11 ∷ 12 ∷ 16 ∷ 0 ∷ []) $
       ends ! f.ended (f.clauses 𝓤 H A mem run) κs qs a g (vint w64 v) v (tt, (tt, (tt, (tt, (answer-last .1 .1 .1 .1 .0, (v-last .1 .1 .0, tt))))))
@@ -87,4 +87,4 @@ hulemartob-run-spec 𝓤 H 𝓜 𝓖 𝓡 =
     (cited 𝓤 H (From 𝓤 H (𝓖 .A) (𝓜 .mem) (𝓡 .run)) 𝓜 𝓡 code.env #c-numbers·column-from cf-def.routine code.calls-c-numbers·column-from (cf-thm.met 𝓤 H 𝓜 𝓖 𝓡))
     (cited 𝓤 H (Of 𝓤 H (𝓖 .A) (𝓜 .mem) (𝓡 .run)) 𝓜 𝓡 code.env #c-numbers·column-of co-def.routine code.calls-c-numbers·column-of (co-thm.met 𝓤 H 𝓜 𝓖 𝓡))
     (cited 𝓤 H (Ran 𝓤 H (𝓖 .A) (𝓜 .mem) (𝓡 .run)) 𝓜 𝓡 code.env #table·run rn-def.routine code.calls-table·run (rn-thm.met 𝓤 H 𝓜 𝓖 𝓡))
-    (cited 𝓤 H (Told 𝓤 H (𝓖 .A) (𝓜 .mem) (𝓡 .run)) 𝓜 𝓡 code.env #c-answers·run-told rt-def.routine code.calls-c-answers·run-told (rt-thm.met 𝓤 H 𝓜 𝓖 𝓡)))
+    (cited 𝓤 H (Told 𝓤 H (𝓖 .A) (𝓜 .mem) (𝓡 .run)) 𝓜 𝓡 code.env #c-answers·entries-told rt-def.routine code.calls-c-answers·entries-told (rt-thm.met 𝓤 H 𝓜 𝓖 𝓡)))

@@ -20,13 +20,13 @@ use Rattle.format.specs.declared.Column.{Column}
 use Rattle.format.specs.Outcome.{Outcome}
 use Rattle.format.specs.Reading.{blockAt, rowAt}
 use Rattle.format.specs.Runs.{decoded}
-use Rattle.format.specs.Calls.{RunAs}
+use Rattle.format.specs.Calls.{StoredAs}
 use Rattle.format.proofs.Block.Laws as B′
 use Rattle.format.proofs.Column.Laws as C′
 use Rattle.format.proofs.Window.Laws as N′
-use Rattle.format.proofs.RunRead.Laws as F′
+use Rattle.format.proofs.Stored.Laws as F′
 use Rattle.read_walk.proofs.Walk.Laws as W′
-use Rattle.read_walk.specs.Walks.{Kept.allValues, WalkedAs, left, Walking}
+use Rattle.read_walk.specs.Walks.{Kept.allValues, left, Walking}
 use Rattle.read_walk.proofs.Walking.{is-passing, is-over, passing-run}
 use Rattle.table.proofs.Types as Ty
 use Rattle.table.proofs.Rounds as R
@@ -46,10 +46,10 @@ use Rattle.read_run.proofs.begin as bg
 use Rattle.read_run.proofs.begin.Symbol as bg-def
 use Rattle.read_run.proofs.begin.Symbol.{name as #read-run·begin}
 use Rattle.read_run.proofs.begin.Met as bg-thm
-use Rattle.read_run.proofs.answer as an
-use Rattle.read_run.proofs.answer.Symbol as an-def
-use Rattle.read_run.proofs.answer.Symbol.{name as #read-run·answer}
-use Rattle.read_run.proofs.answer.Met as an-thm
+use Rattle.read_walk.proofs.answer as an
+use Rattle.read_walk.proofs.answer.Symbol as an-def
+use Rattle.read_walk.proofs.answer.Symbol.{name as #read-walk·answer}
+use Rattle.read_walk.proofs.answer.Met as an-thm
 use Rattle.table.proofs.run.Key.{name as #table·run}
 use Rattle.table.proofs.run as f
 use Rattle.table.proofs.run.Statement as stated
@@ -77,7 +77,7 @@ module _ {M : Type 1} (𝓤 : URA M) (H : Heap 𝓤) (A : Atoms 𝓤) (mem : Mem
   abbrev Answer : Contract 𝓤
   Answer = tripleOf 𝓤 H A an.signature (an.spec 𝓤 H A mem run)
 
-  module _ (W : Given 𝓤 H A) (𝓣 : Tables 𝓤 H) (known-of : Triple 𝓤 (𝓣 .C #read-walk·block-of) Of) (known-at : Triple 𝓤 (𝓣 .C #table·block-at) At) (known-step : Triple 𝓤 (𝓣 .C #read-run·step) Step) (known-answer : Triple 𝓤 (𝓣 .C #read-run·answer) Answer) (κs : Lfts 3) (qs : Shares 3) (c : Column) (table : RefT (List Block)) (bytes : RefT (List ℕ)) (start : ℕ) (out : RefT (List ℕ))
+  module _ (W : Given 𝓤 H A) (𝓣 : Tables 𝓤 H) (known-of : Triple 𝓤 (𝓣 .C #read-walk·block-of) Of) (known-at : Triple 𝓤 (𝓣 .C #table·block-at) At) (known-step : Triple 𝓤 (𝓣 .C #read-run·step) Step) (known-answer : Triple 𝓤 (𝓣 .C #read-walk·answer) Answer) (κs : Lfts 3) (qs : Shares 3) (c : Column) (table : RefT (List Block)) (bytes : RefT (List ℕ)) (start : ℕ) (out : RefT (List ℕ))
       (c-fits : Fits Ty.column c) (n-fits : length (table .now) < 2 ^ 64) (room : length (out .now) < 2 ^ 64) (ls : Spots locals) where
     abbrev a : Args f.signature κs
     a = (c, (table, (bytes, (start, (out, tt)))))
@@ -139,17 +139,17 @@ module _ {M : Type 1} (𝓤 : URA M) (H : Heap 𝓤) (A : Atoms 𝓤) (mem : Mem
     unfolding afterTurn
     over t test =
         assigns ! (of-opd ! (load ! (from ! (fld ! refl (stop !))) (look-in ! 10 (sub ! 6 refl (whole !))))) (from ! (stop !)) (init ! 4 refl (tt, tt)) $ leaves-loop ! (load ! (from ! (stop !)) (look-as ! 4 refl (ap vbool test))) $ exec ! (𝓣 .C) (𝓣 .Λ) E mir.t-6 (atRet E Post) $
-        have ! Ty.walk (t .w) (t .fits) $ calls ! (fmOf 𝓤 H (W .laws) 𝓣) an.ended (an.clauses 𝓤 H A mem run) known-answer (tt, tt, tt, (t .w, tt), (vals Ty.walk (t .w), tt)) tt (id⊢ 𝓤 _) (λ r _. (o : Outcome (List ℕ)) (before list : List ℕ) → WalkedAs o (t .w .answer) before list → RunAs o r before list) (λ _ _. id⊢ 𝓤 _) (Ty.runRead .val) (Ty.runRead .tells) refl
-        (and-then ! (load ! (from ! (stop !)) (look ! 11 refl)) (no-more !)) (λ r _ e fits. lands-at ! 28 refl (typed W Ty.runRead r _ fits .0) $
-        returns ! (look ! 28 refl) $ leaves ! (filled 10 _ ++ (bare ∷ bare ∷ holds _ ∷ [])) refl $ move ! (5 ∷ []) $ gives-up ! u64 out (t .list) $ nothings ! 4 $ have ! Ty.runRead r fits $ move ! (6 ∷ 7 ∷ 8 ∷ 1 ∷ 2 ∷ 3 ∷ 4 ∷ 5 ∷ 0 ∷ []) $
-        ends ! f.ended (f.clauses 𝓤 H A mem run) κs qs a tt (Ty.runRead .val r) r (tt, (tt, (tt, (tt, (t .list, tt))))) (factI 𝓤 _ (emp 𝓤) (e wanted (out .now) (t .list) (is-over (t .under-way) test))) _ refl)
+        have ! Ty.walk (t .w) (t .fits) $ calls ! (fmOf 𝓤 H (W .laws) 𝓣) an.ended (an.clauses 𝓤 H A mem run) known-answer (tt, tt, tt, (t .w, tt), (vals Ty.walk (t .w), tt)) tt (id⊢ 𝓤 _) (λ r _. (o : Outcome (List ℕ)) (before list : List ℕ) → StoredAs o (t .w .answer) before list → StoredAs o r before list) (λ _ _. id⊢ 𝓤 _) (Ty.stored .val) (Ty.stored .tells) refl
+        (and-then ! (load ! (from ! (stop !)) (look ! 11 refl)) (no-more !)) (λ r _ e fits. lands-at ! 28 refl (typed W Ty.stored r _ fits .0) $
+        returns ! (look ! 28 refl) $ leaves ! (filled 10 _ ++ (bare ∷ bare ∷ holds _ ∷ [])) refl $ move ! (5 ∷ []) $ gives-up ! u64 out (t .list) $ nothings ! 4 $ have ! Ty.stored r fits $ move ! (6 ∷ 7 ∷ 8 ∷ 1 ∷ 2 ∷ 3 ∷ 4 ∷ 5 ∷ 0 ∷ []) $
+        ends ! f.ended (f.clauses 𝓤 H A mem run) κs qs a tt (Ty.stored .val r) r (tt, (tt, (tt, (tt, (t .list, tt))))) (factI 𝓤 _ (emp 𝓤) (e wanted (out .now) (t .list) (is-over (t .under-way) test))) _ refl)
 
     -- the loop, and the rest of the body
     looped : (t : State) → Sq W (I t) (runs (𝓣 .C) (𝓣 .Λ) E mir.t-5 (atRet E Post))
     looped t = first ! $ blocks ! $ loops ! 𝓣 R._≺_ R.wf I (λ u. tested (u .w .going) (more u) (over u)) t
 
   -- the MIR, up to the loop
-  walk : (W : Given 𝓤 H A) (𝓣 : Tables 𝓤 H) → Triple 𝓤 (𝓣 .C #read-walk·block-of) Of → Triple 𝓤 (𝓣 .C #table·block-at) At → Triple 𝓤 (𝓣 .C #read-run·step) Step → Triple 𝓤 (𝓣 .C #read-run·begin) Begin → Triple 𝓤 (𝓣 .C #read-run·answer) Answer → Triple 𝓤 (WpFn 𝓤 H (𝓣 .C) (𝓣 .Λ) code.function) (tripleOf 𝓤 H A f.signature (f.spec 𝓤 H A mem run))
+  walk : (W : Given 𝓤 H A) (𝓣 : Tables 𝓤 H) → Triple 𝓤 (𝓣 .C #read-walk·block-of) Of → Triple 𝓤 (𝓣 .C #table·block-at) At → Triple 𝓤 (𝓣 .C #read-run·step) Step → Triple 𝓤 (𝓣 .C #read-run·begin) Begin → Triple 𝓤 (𝓣 .C #read-walk·answer) Answer → Triple 𝓤 (WpFn 𝓤 H (𝓣 .C) (𝓣 .Λ) code.function) (tripleOf 𝓤 H A f.signature (f.spec 𝓤 H A mem run))
   walk W 𝓣 known-of known-at known-step known-begin known-answer =
       meets-by 𝓤 H A W (𝓣 .C) (𝓣 .Λ) f.ended (f.clauses 𝓤 H A mem run) code.function locals (λ κs. (vals Ty.column, (slice-vals, (slice-vals, (uint-vals w32, (slice-vals, tt)))))) refl
       (λ κs. (Ty.column .tells, (shr-slice-tells (named 0) (κs .0) (Ty.block .row), (shr-slice-tells (named 1) (κs .1 .0) u8, (uint-tells w32, (mut-slice-tells (named 2) (κs .1 .1 .0) u64, tt))))))
@@ -174,4 +174,4 @@ run-spec 𝓤 H 𝓜 𝓖 𝓡 =
     (cited 𝓤 H (At 𝓤 H (𝓖 .A) (𝓜 .mem) (𝓡 .run)) 𝓜 𝓡 code.env #table·block-at at-def.routine code.calls-table·block-at (at-thm.met 𝓤 H 𝓜 𝓖 𝓡))
     (cited 𝓤 H (Step 𝓤 H (𝓖 .A) (𝓜 .mem) (𝓡 .run)) 𝓜 𝓡 code.env #read-run·step st-def.routine code.calls-read-run·step (st-thm.met 𝓤 H 𝓜 𝓖 𝓡))
     (cited 𝓤 H (Begin 𝓤 H (𝓖 .A) (𝓜 .mem) (𝓡 .run)) 𝓜 𝓡 code.env #read-run·begin bg-def.routine code.calls-read-run·begin (bg-thm.met 𝓤 H 𝓜 𝓖 𝓡))
-    (cited 𝓤 H (Answer 𝓤 H (𝓖 .A) (𝓜 .mem) (𝓡 .run)) 𝓜 𝓡 code.env #read-run·answer an-def.routine code.calls-read-run·answer (an-thm.met 𝓤 H 𝓜 𝓖 𝓡)))
+    (cited 𝓤 H (Answer 𝓤 H (𝓖 .A) (𝓜 .mem) (𝓡 .run)) 𝓜 𝓡 code.env #read-walk·answer an-def.routine code.calls-read-walk·answer (an-thm.met 𝓤 H 𝓜 𝓖 𝓡)))

@@ -1,11 +1,11 @@
--- `c_answers::run_told` meets its contract: the column was refused, or the answer is told.
+-- `c_answers::entries_told` meets its contract: the column was refused, or the answer is told.
 -- Assumes nothing.
 use mathlib.Core.Path.{refl, ap, _∙_}
-use Rattle.format.specs.Refusals.{runMeaning}
+use Rattle.format.specs.Refusals.{storedMeaning}
 use Rattle.c_numbers.proofs.Answering.{through, stopped, refused}
 use borrow.Author.Needs.{needs}
-use Rattle.c_answers.proofs.run_told.Statement.{statement}
-use Rattle.c_answers.proofs.run_told.Tie as tie
+use Rattle.c_answers.proofs.entries_told.Statement.{statement}
+use Rattle.c_answers.proofs.entries_told.Tie as tie
 
 enum-known-made : tie.Need-enum-known-made
 enum-known-made c = search needs
@@ -34,10 +34,10 @@ returns-2 c = search needs
 
 returns-3 : tie.Need-returns-3
 returns-3 c = let a = c .before .before in
-    refused (a .answer2 .given .0 .0) (through (λ _. _) refl (a .before .before .enum-told .given .1) ∙ ap runMeaning (a .answer2 .given .1)) (c .told2 .ensures)
+    refused (a .answer2 .given .0 .0) (through (λ _. _) refl (a .before .before .enum-told .given .1) ∙ ap storedMeaning (a .answer2 .given .1)) (c .told2 .ensures)
 
-pub run-told-spec : {M : Type 1} → statement M
-run-told-spec =
+pub entries-told-spec : {M : Type 1} → statement M
+entries-told-spec =
     tie.close
     (tie.spec
     enum-known-made
