@@ -1,6 +1,5 @@
 -- Laws of a lookup; the head of each file lists what it offers.
 
 pub mod Beginnings
-pub mod Scans
-pub mod Ranges
 pub mod Rests
+pub mod Sweeps

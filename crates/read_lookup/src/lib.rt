@@ -1,122 +1,28 @@
-// Looking rows up: a walk whose first pass counts the rows in the range, and whose second stores them, reading only where the count leaves open which they are.
+// Looking rows up: a walk whose first pass counts the rows in the range, and whose second stores them, reading only where the count leaves open which they are. `sweeping` is one pass for both, where few are found.
 ghost use mathlib.Core.Path.{_≡_};
-ghost use mathlib.Core.Bool.{Bool, true};
+ghost use mathlib.Core.Bool.{Bool, true, false};
 ghost use mathlib.Core.List.{List};
 ghost use Prim.Native.Nat.{ℕ, _+_, _-_, _%_, _^_, _≤_, _<_};
-ghost use lib.ListN.{length, take};
+ghost use lib.ListN.{length};
 ghost use lib.Seq.{sets};
 ghost use Rattle.format.specs.Outcome.{Outcome, pick};
-ghost use Rattle.format.specs.Word.{AllBelow};
 ghost use Rattle.format.specs.Lookup.{lookedUp, within};
 ghost use Rattle.read_chunk.specs.Rows.{rowsAmong};
-ghost use Rattle.read_lookup.specs.Counts.{OutsideOf};
 ghost use Rattle.read_lookup.specs.Rests.{rowsFrom, DoneAs};
+ghost use Rattle.read_lookup.specs.Sweeps.{blockless};
 ghost use Rattle.format.specs.declared.Stored.the-variants.{Entries};
 ghost use Rattle.read_walk.specs.Walks.{Kept.rowsOf, nextChunk, Going, left, InPass, Walking, Keeps};
+
+pub mod sweeping;
+
 use format::Block;
+use format::Codec;
 use format::Column;
 use format::Stored;
 use format::Window;
 use format::WindowRow;
 use read_chunk::cut;
 use read_walk::Walk;
-
-// One more than `n` if a value lies in the range: if it lies no further above the low end than the high end does, modulo 2^64, which is one comparison and no branch.
-fn tallied(n: usize, low: u64, high: u64, value: u64) -> usize
-    requires { ⌜ n + 1 < 2 ^ 64 ⌝ }
-    ensures { λ r. ⌜ r ≡ pick (within low high value) (n + 1) n ⌝ }
-{
-    if high < low {
-        return n;
-    }
-    let span = high - low;
-    if word::sub(value, low) <= span {
-        return n + 1;
-    }
-    n
-}
-
-// How many of some values lie in the range, one comparison a value.
-fn count_any(values: &[u64], low: u64, high: u64) -> usize
-    ensures { λ n. ⌜ ((r : ℕ) → n ≡ length (rowsAmong (within low high) r (now (values .entry)))) ⌝ }
-    ensures { λ n. ⌜ n ≤ length (now (values .entry)) ⌝ }
-{
-    let mut n = 0;
-    let mut i = 0;
-    while i < values.len() {
-        n = tallied(n, low, high, values[i]);
-        i += 1;
-    }
-    n
-}
-
-// Internal: asks for a range of at most 2^63 values, and a count with room. One more than `n` if a value lies outside the range: the top bit of how far it lies above the low end, or of what is then left of the range.
-fn passed_over(n: usize, low: u64, span: u64, value: u64) -> usize
-    requires { ⌜ (span < 2 ^ 63) × (low + span < 2 ^ 64) × (n + 1 < 2 ^ 64) ⌝ }
-    ensures { λ r. ⌜ r ≡ pick (within low (low + span) value) n (n + 1) ⌝ }
-{
-    let above = word::sub(value, low);
-    let beyond = (above | word::sub(span, above)) >> 63;
-    n + beyond as usize
-}
-
-// Internal: asks for a range of at most 2^63 values. How many of some values lie outside it: no comparison, which the compiler would have to make up out of other operations where it works on two values at once.
-fn count_outside(values: &[u64], low: u64, span: u64) -> usize
-    requires { ⌜ (span < 2 ^ 63) × (low + span < 2 ^ 64) ⌝ }
-    ensures { λ n. ⌜ OutsideOf low (low + span) n (now (values .entry)) ⌝ }
-{
-    let mut n = 0;
-    let mut i = 0;
-    while i < values.len() {
-        n = passed_over(n, low, span, values[i]);
-        i += 1;
-    }
-    n
-}
-
-// How many of some values lie in the range.
-fn count_within(values: &[u64], low: u64, high: u64) -> usize
-    ensures { λ n. ⌜ ((r : ℕ) → n ≡ length (rowsAmong (within low high) r (now (values .entry)))) ⌝ }
-    ensures { λ n. ⌜ n ≤ length (now (values .entry)) ⌝ }
-{
-    if high < low {
-        return count_any(values, low, high);
-    }
-    let span = high - low;
-    if 0x8000_0000_0000_0000 <= span {
-        return count_any(values, low, high);
-    }
-    values.len() - count_outside(values, low, span)
-}
-
-// Internal: asks for rows below 2^32. Puts the rows whose values lie in the range, the first value's row being `row`, over the values, from the front on, and returns how many. Each row is put there,
-// and the next one over it if its value lies outside, so that no branch is to be guessed. No row is put behind its own value, so that the values to come stand as they were.
-fn gather_rows(values: &mut [u64], low: u64, high: u64, row: u32) -> usize
-    requires { ⌜ row + length (now values) ≤ 2 ^ 32 ⌝ }
-    ensures { λ n. ⌜ (n ≤ length (now (values .entry))) × (take n (now (values .exit)) ≡ rowsAmong (within low high) row (now (values .entry))) ⌝ }
-{
-    let mut n = 0;
-    let mut i = 0;
-    while i < values.len() {
-        let value = values[i];
-        values[n] = (row + i as u32) as u64;
-        n = tallied(n, low, high, value);
-        i += 1;
-    }
-    n
-}
-
-// Internal: asks for room, and for rows below 2^32. Copies rows into a list from entry `at` on.
-fn copy_rows(rows: &[u64], found: &mut [u32], at: usize)
-    requires { ⌜ (at + length (now rows) ≤ length (now found)) × AllBelow (2 ^ 32) (now rows) ⌝ }
-    ensures { λ _. ⌜ now (found .exit) ≡ sets (now (found .entry)) at (now (rows .entry)) ⌝ }
-{
-    let mut i = 0;
-    while i < rows.len() {
-        found[at + i] = rows[i] as u32;
-        i += 1;
-    }
-}
 
 // Internal: asks for rows below 2^32, and no more entries before `at` than rows before `row`. Stores the rows whose values lie in the range, the first value's row being `row`, from entry `at` on, where the list has
 // room for them, and returns the entry behind them. The values are lost.
@@ -132,10 +38,10 @@ fn store_within(
     ensures { λ n. ⌜ n ≡ at + length (rowsAmong (within low high) row (now (values .entry))) ⌝ }
     ensures { λ n. ⌜ (n ≤ length (now (found .entry)) → now (found .exit) ≡ sets (now (found .entry)) at (rowsAmong (within low high) row (now (values .entry)))) ⌝ }
 {
-    let n = gather_rows(values, low, high, row);
+    let n = read_scan::gather_rows(values, low, high, row);
     let end = at + n;
     if end <= found.len() {
-        copy_rows(&values[..n], found, at);
+        read_scan::copy_rows(&values[..n], found, at);
     }
     end
 }
@@ -173,7 +79,7 @@ fn keep(
     ensures { λ n. ⌜ ((storing ≡ true → at + n ≤ length (now (found .entry))) → now (found .exit) ≡ pick storing (sets (now (found .entry)) at (rowsAmong (within low high) row (now (values .entry)))) (now (found .entry))) ⌝ }
 {
     if !storing {
-        return count_within(values, low, high);
+        return read_scan::count_within(values, low, high);
     }
     store_within(values, low, high, row, found, at) - at
 }
@@ -320,6 +226,41 @@ fn is_told(w: Walk, found: &mut [u32]) -> bool
     }
 }
 
+// Whether a lookup is swept: it is at the beginning of its first pass, over a column without blocks.
+fn is_swept(codec: Codec, w: Walk) -> bool
+    ensures { λ r. ⌜ (r ≡ true → (w .at ≡ w .first) × (w .storing ≡ false) × (blockless codec ≡ true)) ⌝ }
+{
+    if w.storing {
+        return false;
+    }
+    if w.at != w.first {
+        return false;
+    }
+    sweeping::is_blockless(codec)
+}
+
+// Internal: asks for a lookup that is going on over rows of the window. One turn that reads: at the beginning of a column without blocks as many chunks as a sweep does, else the chunk at hand.
+fn step_on(
+    column: Column,
+    blocks: usize,
+    block: Block,
+    bytes: &[u8],
+    low: u64,
+    high: u64,
+    w: Walk,
+    found: &mut [u32],
+) -> Walk
+    requires { ⌜ Going w × (w .base ≡ column .window .first) × (w .end ≤ column .window .rows) ⌝ }
+    ensures { λ r. ⌜ Keeps (rowsOf (within low high)) column blocks block (now (bytes .entry)) w r (now (found .entry)) (now (found .exit)) ⌝ }
+    ensures { λ r. ⌜ left r < left w ⌝ }
+{
+    let codec = column.codec;
+    if is_swept(codec, w) {
+        return sweeping::sweep(column, blocks, block, bytes, low, high, w, found);
+    }
+    step_reading(column, blocks, block, bytes, low, high, w, found)
+}
+
 // Internal: asks for a lookup that is going on over rows of the window. One turn: the chunk at hand, with its block out of a table of so many, or all that is left, where the count tells it.
 pub fn step(
     column: Column,
@@ -340,7 +281,7 @@ pub fn step(
         return read_walk::over(w, answer);
     }
     let room = found.len();
-    step_reading(
+    step_on(
         column,
         blocks,
         block,

@@ -43,8 +43,8 @@ returns c =
 trimmed-requires : tie.Need-trimmed-requires
 trimmed-requires c κs = search needs
 
-step-reading-requires : tie.Need-step-reading-requires
-step-reading-requires c κs = search needs
+step-on-requires : tie.Need-step-on-requires
+step-on-requires c κs = search needs
 
 same-length-2 : tie.Need-same-length-2
 same-length-2 c = search needs
@@ -62,9 +62,9 @@ returns-2 c =
           let read = rowAt (a .column) table (now (a .bytes)) in
           let g = is-passing f (s .pre .0 .on) in
           let same = not-done (t .is-told .ensures test read (a .column .window) o before g) (e .if1 .left) in
-          r .step-reading .ensures .0 table before o number (rw (m .trimmed .ensures .0 .1, m .trimmed .ensures .0 .3) block)
+          r .step-on .ensures .0 table before o number (rw (m .trimmed .ensures .0 .1, m .trimmed .ensures .0 .3) block)
           (m .trimmed .ensures .1 test read (a .column .window) o before _ (omega (arith, passing-long g, ap length same)) (subst (λ (l : List ℕ). Walking (rowsOf test) read (a .column .window) o before (a .w) l) (sym same) f))),
-      omega (arith, r .step-reading .ensures .1, m .trimmed .ensures .0 .4),
+      omega (arith, r .step-on .ensures .1, m .trimmed .ensures .0 .4),
     )
 
 pub step-spec : {M : Type 1} → statement M
@@ -76,6 +76,6 @@ step-spec =
     same-length
     returns
     trimmed-requires
-    step-reading-requires
+    step-on-requires
     same-length-2
     returns-2)

@@ -8,7 +8,7 @@ use denote.Ref.{now}
 use lib.ListN.{length, take}
 use lib.Seq.{sets, length-take-le}
 use Rattle.format.specs.Word.{AllBelow}
-use Rattle.read_lookup.proofs.Scans.{rows-below}
+use Rattle.read_scan.proofs.Scans.{rows-below}
 use borrow.Author.Needs.{needs}
 use Rattle.read_lookup.proofs.store_within.Statement.{statement}
 use Rattle.read_lookup.proofs.store_within.Tie as tie

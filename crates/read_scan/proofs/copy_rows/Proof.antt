@@ -1,12 +1,12 @@
--- `read_lookup::copy_rows` meets its contract, by the invariant `CopiedTo`.
+-- `read_scan::copy_rows` meets its contract, by the invariant `CopiedTo`.
 -- Assumes nothing.
 use Prim.Native.Nat.{_-_}
 use native.Mathlib.Omega.{arith}
 use lib.ListN.{length}
 use Rattle.read_chunk.proofs.Copies.{CopiedTo, copy-starts, copy-more, copy-ends}
 use borrow.Author.Needs.{needs}
-use Rattle.read_lookup.proofs.copy_rows.Statement.{statement}
-use Rattle.read_lookup.proofs.copy_rows.Tie as tie
+use Rattle.read_scan.proofs.copy_rows.Statement.{statement}
+use Rattle.read_scan.proofs.copy_rows.Tie as tie
 
 abbrev Inv-loop : tie.InvT-loop
 Inv-loop rows found₀ at i₀ found i = CopiedTo rows found₀ at found i

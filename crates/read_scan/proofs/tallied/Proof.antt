@@ -1,10 +1,10 @@
--- `read_lookup::tallied` meets its contract: its comparison is the range's.
+-- `read_scan::tallied` meets its contract: its comparison is the range's.
 -- Assumes nothing.
 use native.Mathlib.Omega.{arith}
-use Rattle.read_lookup.proofs.Ranges.{turned, near, far}
+use Rattle.read_scan.proofs.Ranges.{turned, near, far}
 use borrow.Author.Needs.{needs}
-use Rattle.read_lookup.proofs.tallied.Statement.{statement}
-use Rattle.read_lookup.proofs.tallied.Tie as tie
+use Rattle.read_scan.proofs.tallied.Statement.{statement}
+use Rattle.read_scan.proofs.tallied.Tie as tie
 
 returns : tie.Need-returns
 returns c = rw (turned _ _ _ (c .if1 .taken))

@@ -1,13 +1,13 @@
--- `read_lookup::count_outside` meets its contract, by the invariant `Sparing`.
+-- `read_scan::count_outside` meets its contract, by the invariant `Sparing`.
 -- Assumes nothing.
 use Prim.Native.Nat.{_+_, _-_}
 use native.Mathlib.Omega.{arith}
 use lib.ListN.{length}
 use Rattle.format.specs.Lookup.{within}
-use Rattle.read_lookup.proofs.Scans.{Sparing, spare-starts, spare-more, spare-ends}
+use Rattle.read_scan.proofs.Scans.{Sparing, spare-starts, spare-more, spare-ends}
 use borrow.Author.Needs.{needs}
-use Rattle.read_lookup.proofs.count_outside.Statement.{statement}
-use Rattle.read_lookup.proofs.count_outside.Tie as tie
+use Rattle.read_scan.proofs.count_outside.Statement.{statement}
+use Rattle.read_scan.proofs.count_outside.Tie as tie
 
 abbrev Inv-loop : tie.InvT-loop
 Inv-loop values low span n₀ i₀ n i = Sparing (within low (low + span)) values n i

@@ -1,10 +1,11 @@
 -- A range of values by one comparison: how far a value lies above the low end, modulo 2^64.
 --     turned, near, far
---     top-few, top-counts     by the top bits of two numbers
+--     top-tells               by the top bits of two numbers
+--     adds-top, set-outside   what that bit adds to a count, and what it says where it is set
 -- Assumes nothing.
 use Prim.Native.Nat.{ℕ, _+_, _-_, _/_, _^_, _≤_, _<_}
-use mathlib.Core.Path.{_≡_, ap}
-use mathlib.Core.Bool.{true, false}
+use mathlib.Core.Path.{_≡_, refl}
+use mathlib.Core.Bool.{Bool, true, false}
 use mathlib.Core.Logic.{⊎-elim}
 use native.Mathlib.Omega.{arith}
 use lib.Bits.{bitOr, or-lt, or-add-and, and-le-l, and-le-r}
@@ -51,19 +52,26 @@ module _ (span x y : ℕ) (small : span < 2 ^ 63) (fits : x < 2 ^ 64) (rest : y 
       let b : y < 2 ^ 64 = omega arith in
       omega (arith, or-lt 64 x y fits b, or-add-and x y, and-le-l x y, and-le-r x y)
 
-  pub top-few : bitOr x y / 2 ^ 63 ≤ 1
-  top-few = let b : y < 2 ^ 64 = omega arith in omega (arith, or-lt 64 x y fits b)
-
--- counted by that bit is counted by the range
-pub top-counts : (n low span v x y : ℕ) → span < 2 ^ 63 → low + span < 2 ^ 64 → v < 2 ^ 64 → x ≡ modSub v low → y ≡ modSub span x → n + bitOr x y / 2 ^ 63 ≡ pick (within low (low + span) v) n (n + 1)
-top-counts n low span v x y small room fits far-is rest =
+-- that bit tells what lies outside the range
+pub top-tells : (low span v x y : ℕ) → span < 2 ^ 63 → low + span < 2 ^ 64 → v < 2 ^ 64 → x ≡ modSub v low → y ≡ modSub span x → bitOr x y / 2 ^ 63 ≡ pick (within low (low + span) v) 0 1
+top-tells low span v x y small room fits far-is rest =
     let most : x < 2 ^ 64 = omega arith in
     let width : low + span - low ≡ span = omega arith in
     ⊎-elim
     (λ (h : span < x).
     rw (far low (low + span) v (omega arith) room fits (omega arith))
-    (ap (λ (k : ℕ). n + k) (top-outside span x y small most rest h)))
+    (top-outside span x y small most rest h))
     (λ (h : x ≤ span).
     rw (near low (low + span) v (omega arith) room fits (omega arith))
-    (let z : bitOr x y / 2 ^ 63 ≡ 0 = top-inside span x y small most rest h in omega arith))
+    (top-inside span x y small most rest h))
     (below-or span x)
+
+-- what it adds to a count
+pub adds-top : (t : Bool) (n k : ℕ) → k ≡ pick t 0 1 → n + k ≡ pick t n (n + 1)
+adds-top true n k e = omega (arith, e)
+adds-top false n k e = omega (arith, e)
+
+-- where it is set, the value lies outside
+pub set-outside : (t : Bool) (k : ℕ) → k / 2 ^ 63 ≡ pick t 0 1 → 2 ^ 63 ≤ k → t ≡ false
+set-outside true k e h = absurd (omega (arith, e))
+set-outside false k e h = refl

@@ -1,15 +1,15 @@
--- `read_lookup::count_any` meets its contract, by the invariant `Tallying`.
+-- `read_scan::count_any` meets its contract, by the invariant `Tallying`.
 -- Assumes nothing.
 use Prim.Native.Nat.{_-_}
 use native.Mathlib.Omega.{arith}
 use denote.Ref.{now}
 use lib.ListN.{length}
 use Rattle.format.specs.Lookup.{within}
-use Rattle.read_lookup.proofs.Scans.{Tallying, tally-starts, tally-more, tally-ends}
+use Rattle.read_scan.proofs.Scans.{Tallying, tally-starts, tally-more, tally-ends}
 use Rattle.read_chunk.proofs.Rows.{rows-few}
 use borrow.Author.Needs.{needs}
-use Rattle.read_lookup.proofs.count_any.Statement.{statement}
-use Rattle.read_lookup.proofs.count_any.Tie as tie
+use Rattle.read_scan.proofs.count_any.Statement.{statement}
+use Rattle.read_scan.proofs.count_any.Tie as tie
 
 abbrev Inv-loop : tie.InvT-loop
 Inv-loop values low high n₀ i₀ n i = Tallying (within low high) values n i

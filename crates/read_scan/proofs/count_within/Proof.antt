@@ -1,4 +1,4 @@
--- `read_lookup::count_within` meets its contract: what lies outside the range is counted where the top bits tell it.
+-- `read_scan::count_within` meets its contract: what lies outside the range is counted where the top bits tell it.
 -- Assumes nothing.
 use Prim.Native.Nat.{ℕ, _+_, _-_, _≤_}
 use mathlib.Core.Path.{_≡_}
@@ -7,10 +7,10 @@ use native.Mathlib.Omega.{arith}
 use lib.ListN.{length}
 use Rattle.format.specs.Lookup.{within}
 use Rattle.read_chunk.specs.Rows.{rowsAmong}
-use Rattle.read_lookup.specs.Counts.{OutsideOf}
+use Rattle.read_scan.specs.Counts.{OutsideOf}
 use borrow.Author.Needs.{needs}
-use Rattle.read_lookup.proofs.count_within.Statement.{statement}
-use Rattle.read_lookup.proofs.count_within.Tie as tie
+use Rattle.read_scan.proofs.count_within.Statement.{statement}
+use Rattle.read_scan.proofs.count_within.Tie as tie
 
 others-of : (low high n : ℕ) (values : List ℕ) → low ≤ high → OutsideOf low (low + (high - low)) n values → (r : ℕ) → length values - n ≡ length (rowsAmong (within low high) r values)
 others-of low high n values ordered f r =
