@@ -99,13 +99,18 @@ pub fn fill_lines(
     ensures { λ _. ⌜ now (out .exit) ≡ sets (now (out .entry)) 0 (chunk (textAt left (now (lbytes .entry)) right (now (rbytes .entry))) blameMax (length (now (lbytes .entry))) (length (now (out .entry))) from) ⌝ }
     ensures { λ r. ⌜ Counts (r .bytes) (now (out .exit)) ⌝ }
 {
+    let mut l = text_column::own::begin(lbytes, left);
+    let mut r = text_column::own::begin(rbytes, right);
     let mut i = from;
     let mut at = 0;
     while i < lbytes.len() {
         if out.len() - at < BLAME_MAX {
             break;
         }
-        at = rows::put_offset(out, at, left, lbytes, right, rbytes, i);
+        let put = rows::put_offset(out, at, l, lbytes, r, rbytes, i);
+        at = put.end;
+        l = put.left;
+        r = put.right;
         i += 1;
     }
     Looked {

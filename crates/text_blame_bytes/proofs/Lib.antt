@@ -3,5 +3,6 @@
 -- the first field that differs
 pub mod FirstField
 -- the rows of a byte, and counting
+pub mod Passed
 pub mod FewRows
 pub mod Tallies

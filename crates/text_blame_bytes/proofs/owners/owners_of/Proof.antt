@@ -11,18 +11,22 @@ use Rattle.text_blame_bytes.proofs.owners.owners_of.Tie as tie
 rows-at-requires : tie.Need-rows-at-requires
 rows-at-requires c κs = search needs
 
-enum-known-owners : tie.Need-enum-known-owners
-enum-known-owners c = search needs
+enum-known-rows : tie.Need-enum-known-rows
+enum-known-rows c = search needs
 
 enum-told : tie.Need-enum-told
 enum-told c = search needs
 
 returns : tie.Need-returns
-returns c = sym (ap ownersIn (told rowsMeaning (c .before .before .before .rows-at .ensures) (c .before .owners .given .1)))
+returns c =
+    let found = c .before .before .before .before .rows-at in
+    (sym (ap ownersIn (told rowsMeaning (found .ensures .0) (c .before .rows .given .1))), found .ensures .1)
 
 returns-2 : tie.Need-returns-2
-returns-2 c = sym (ap ownersIn (told rowsMeaning (c .before .before .rows-at .ensures) (c .enum-told .given .1)))
+returns-2 c =
+    let found = c .before .before .before .rows-at in
+    (sym (ap ownersIn (told rowsMeaning (found .ensures .0) (c .enum-told .given .1))), found .ensures .1)
 
 pub owners-of-spec : {M : Type 1} → statement M
 owners-of-spec =
-    tie.close (tie.spec rows-at-requires enum-known-owners enum-told returns returns-2)
+    tie.close (tie.spec rows-at-requires enum-known-rows enum-told returns returns-2)

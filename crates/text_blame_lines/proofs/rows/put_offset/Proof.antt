@@ -7,6 +7,7 @@ use denote.Ref.{now}
 use Rattle.format.proofs.Stores.{wrote-then}
 use Rattle.text_blame_bytes.specs.Owners.{Few}
 use Rattle.text_blame_bytes.proofs.FewRows.{found-few}
+use Rattle.text_blame_bytes.proofs.Passed.{stays-here, stays-owned, stays-then}
 use Rattle.text_blame_lines.proofs.Offsets.{text-same, text-differs}
 use borrow.Author.Needs.{needs}
 use Rattle.text_blame_lines.proofs.rows.put_offset.Statement.{statement}
@@ -16,8 +17,12 @@ same-at-requires : tie.Need-same-at-requires
 same-at-requires c κs = search needs
 
 returns : tie.Need-returns
-returns c = let a = c .before .before .before .before .before .args in
-    (rw (text-same (a .left) (now (a .lbytes)) (a .right) (now (a .rbytes)) (a .offset) (sym (c .before .same-at .ensures) ∙ c .if1 .taken)) (record { ends = sym (add-zero _); list = refl }), omega arith)
+returns c = let s = c .before .before .before .before .before in
+    let a = s .args in (
+      rw (text-same (a .left .column) (now (a .lbytes)) (a .right .column) (now (a .rbytes)) (a .offset) (sym (c .before .same-at .ensures) ∙ c .if1 .taken))
+          (record { ends = sym (add-zero _); list = refl }),
+      (omega arith, (stays-here (s .pre .0 .0), stays-here (s .pre .0 .1))),
+    )
 
 part-at-requires : tie.Need-part-at-requires
 part-at-requires c κs = search needs
@@ -31,8 +36,13 @@ owners-of-requires c κs = search needs
 put-owners-requires : tie.Need-put-owners-requires
 put-owners-requires c κs = let found = c .before in
     let line = found .before .before .before in
-    let s = line .before .before .before .before .before .before .before .before in
-    (s .pre .0, (subst Few (sym (found .owners-of .ensures)) (found-few (s .args .left) (now (s .args .lbytes)) (s .args .offset)), omega (arith, line .put-byte-line .ensures .1, line .put-byte-line .kept, s .pre .1)))
+    let s = line .before .before .before .before .before .before .before .before in (
+      (stays-owned (found .owners-of .ensures .1), s .pre .0 .1),
+      (
+        subst Few (sym (found .owners-of .ensures .0)) (found-few (s .args .left .column) (now (s .args .lbytes)) (s .args .offset)),
+        omega (arith, line .put-byte-line .ensures .1, line .put-byte-line .kept, s .pre .1),
+      ),
+    )
 
 same-length : tie.Need-same-length
 same-length c = search needs
@@ -40,13 +50,17 @@ same-length c = search needs
 returns-2 : tie.Need-returns-2
 returns-2 c = let put = c .before .before in
     let found = put .before .before in
+    let named = found .owners-of .ensures in
     let line = found .before .before .before in
     let part = line .before .before in
     let test = part .before in
     let a = test .before .before .before .before .before .args in (
-      rw (text-differs (a .left) (now (a .lbytes)) (a .right) (now (a .rbytes)) (a .offset) (sym (test .before .same-at .ensures) ∙ test .if1 .left))
-          (wrote-then (rw (part .part-at .ensures) at (line .put-byte-line .ensures .0)) (rw (found .owners-of .ensures) at (put .put-owners .ensures .0))),
-      omega (arith, line .put-byte-line .ensures .1, put .put-owners .ensures .1),
+      rw (text-differs (a .left .column) (now (a .lbytes)) (a .right .column) (now (a .rbytes)) (a .offset) (sym (test .before .same-at .ensures) ∙ test .if1 .left))
+          (wrote-then (rw (part .part-at .ensures) at (line .put-byte-line .ensures .0)) (rw (named .0, named .1 .column) at (put .put-owners .ensures .0))),
+      (
+        omega (arith, line .put-byte-line .ensures .1, put .put-owners .ensures .1 .0),
+        (stays-then (named .1) (put .put-owners .ensures .1 .1 .0), put .put-owners .ensures .1 .1 .1),
+      ),
     )
 
 pub put-offset-spec : {M : Type 1} → statement M
