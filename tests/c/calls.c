@@ -320,6 +320,18 @@ static void recorded(uint8_t recording[92], uint32_t thirty, uint32_t ten, uint3
         put(recording + 80 + 4 * k, rows[k], 4);
 }
 
+/* The lookup 20 to 30 over rows 0 to 9, which found two rows from one on. */
+static void recorded_pair(uint8_t recording[56], uint32_t first) {
+    const uint32_t header[] = {1, 16, 2, 48};
+    const uint32_t numbers[] = {0, 9, 0, 2, first, first + 1};
+    for (int k = 0; k < 4; k++)
+        put(recording + 4 * k, header[k], 4);
+    put(recording + 16, 20, 8);
+    put(recording + 24, 30, 8);
+    for (int k = 0; k < 6; k++)
+        put(recording + 32 + 4 * k, numbers[k], 4);
+}
+
 static void replays(void) {
     hulemartob_column column;
     block table[1];
@@ -348,6 +360,16 @@ static void replays(void) {
     hulemartob_narrow(&column, 1, 3, &error);
     hulemartob_replay(&column, table, 1, bytes, length, recording, sizeof recording, &report, &error);
     EXPECT(refused(0, 0) && report.differs == UINT64_MAX && report.ran == 2);
+    /* Rows 1 and 2 of 10, 30, 20: the lookup 20 to 30, whose end lies behind all rows, finds both. Recorded by the column's rows it differs. */
+    const uint8_t packed[] = {0x00, 0x8A, 0x8A, 0x82, 0x83, 0x18};
+    uint8_t both[56];
+    hulemartob_open(packed, sizeof packed, NULL, 0, &column, &error);
+    hulemartob_narrow(&column, 1, 2, &error);
+    for (uint32_t first = 0; first < 2; first++) {
+        recorded_pair(both, first);
+        hulemartob_replay(&column, NULL, 0, packed, sizeof packed, both, sizeof both, &report, &error);
+        EXPECT(refused(0, 0) && report.differs == (first ? 0 : UINT64_MAX) && report.ran == 1);
+    }
 }
 
 static void parts(void) {

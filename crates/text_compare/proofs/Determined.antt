@@ -1,19 +1,15 @@
--- The contracts of the comparison's calls determine what they answer and what every lent entry holds afterwards: two results that they allow coincide.
+-- What the comparison's calls promise determines what they answer and what every lent entry holds afterwards: two results that it allows coincide.
 --     begin-determined, row-count-determined, fill-lines-determined, end-line-determined
 -- Assumes nothing.
-use Prim.Native.Nat.{ℕ, max}
+use Prim.Native.Nat.{ℕ}
 use mathlib.Core.Path.{_≡_, sym, _∙_}
 use mathlib.Core.List.{List}
-use lib.ListN.{length}
-use lib.Seq.{sets}
 use Rattle.format.specs.declared.Column.{Column}
-use Rattle.format.specs.Listing.{ascii, namedLine, openedHere}
-use Rattle.format.specs.Outcome.{Wrote}
-use Rattle.text_column.specs.Own.{ownRow}
+use Rattle.format.specs.Listing.{openedHere}
 use Rattle.text_compare.specs.declared.Begun.{Begun}
 use Rattle.text_compare.specs.declared.Compared.{Compared}
 use Rattle.text_compare.specs.Beginning.{BegunAs}
-use Rattle.text_compare.specs.Chunk.{pairChunk, comparedIn}
+use Rattle.text_compare.specs.Chunk.{CountedAs, ComparedAs, EndedAs}
 
 -- two answers of `begin`, and what the lent line holds afterwards
 pub begin-determined : (s t line : List ℕ) (a b : Begun) (new new′ : List ℕ)
@@ -21,21 +17,14 @@ pub begin-determined : (s t line : List ℕ) (a b : Begun) (new new′ : List �
 begin-determined s t line a b new new′ p q = (p .answer ∙ sym (q .answer), p .line ∙ sym (q .line))
 
 -- two answers of `row_count`
-pub row-count-determined : (left right : Column) (a b : ℕ) → a ≡ max (left .window .rows) (right .window .rows) → b ≡ max (left .window .rows) (right .window .rows) → a ≡ b
+pub row-count-determined : (left right : Column) (a b : ℕ) → CountedAs left right a → CountedAs left right b → a ≡ b
 row-count-determined left right a b p q = p ∙ sym q
 
 -- two answers of `fill_lines`, and what the lent buffer holds afterwards
-module _ (left : Column) (lbytes : List ℕ) (right : Column) (rbytes : List ℕ) (from : ℕ) (out : List ℕ) where
-  abbrev answer : Compared
-  answer = comparedIn (ownRow left lbytes) (ownRow right rbytes) (max (left .window .rows) (right .window .rows)) (length out) from
-
-  abbrev written : List ℕ
-  written = sets out 0 (pairChunk (ownRow left lbytes) (ownRow right rbytes) (max (left .window .rows) (right .window .rows)) (length out) from)
-
-  pub fill-lines-determined : (a b : Compared) (new new′ : List ℕ) → a ≡ answer → b ≡ answer → new ≡ written → new′ ≡ written → (a ≡ b) × (new ≡ new′)
-  fill-lines-determined a b new new′ p q n m = (p ∙ sym q, n ∙ sym m)
+pub fill-lines-determined : (left : Column) (s : List ℕ) (right : Column) (t : List ℕ) (from : ℕ) (out : List ℕ) (a b : Compared) (new new′ : List ℕ)
+    → ComparedAs left s right t from a out new → ComparedAs left s right t from b out new′ → (a ≡ b) × (new ≡ new′)
+fill-lines-determined left s right t from out a b new new′ p q = (p .0 ∙ sym (q .0), p .1 .0 ∙ sym (q .1 .0))
 
 -- two answers of `end_line`, and what the lent line holds afterwards
-pub end-line-determined : (lines : ℕ) (line : List ℕ) (a b : ℕ) (new new′ : List ℕ)
-    → Wrote line 0 (namedLine (ascii "lines ") lines) new a → Wrote line 0 (namedLine (ascii "lines ") lines) new′ b → (a ≡ b) × (new ≡ new′)
-end-line-determined lines line a b new new′ p q = (p .ends ∙ sym (q .ends), p .list ∙ sym (q .list))
+pub end-line-determined : (lines : ℕ) (line : List ℕ) (a b : ℕ) (new new′ : List ℕ) → EndedAs lines a line new → EndedAs lines b line new′ → (a ≡ b) × (new ≡ new′)
+end-line-determined lines line a b new new′ p q = (p .0 .ends ∙ sym (q .0 .ends), p .0 .list ∙ sym (q .0 .list))

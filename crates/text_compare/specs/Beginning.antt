@@ -31,7 +31,7 @@ abbrev pub lineLength : Begun → ℕ
 lineLength (Columns c d) = 0
 lineLength (Refused n) = n
 
--- the answer for two byte strings by what opening them found, and the line before and after, whose first bytes the answer counts
+-- `begin` of two byte strings by what opening them found: the answer, and the line before and after, whose first bytes the answer counts
 pub record BegunAs (s t : List ℕ) (left right : Outcome Loaded) (r : Begun) (old new : List ℕ) : Type 0 where
   pub answer : r ≡ begun s t left right
   pub line : new ≡ sets old 0 (onlyLine left right)

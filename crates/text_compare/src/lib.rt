@@ -3,16 +3,10 @@
 // fail, and each contract says what every lent entry holds afterwards.
 mod lines;
 
-ghost use mathlib.Core.Path.{_≡_};
-ghost use Prim.Native.Nat.{max};
-ghost use lib.ListN.{length};
-ghost use lib.Seq.{sets};
-ghost use Rattle.io.specs.Counts.{Counts};
-ghost use Rattle.format.specs.Listing.{ascii, namedLine, openedHere};
-ghost use Rattle.format.specs.Outcome.{Wrote};
+ghost use Rattle.format.specs.Listing.{openedHere};
 ghost use Rattle.text_compare.specs.Beginning.{BegunAs, BegunOn};
-ghost use Rattle.text_compare.specs.Chunk.{pairChunk, comparedIn};
-ghost use Rattle.text_column.specs.Own.{ownRow, Owned};
+ghost use Rattle.text_compare.specs.Chunk.{CountedAs, ComparedAs, EndedAs};
+ghost use Rattle.text_column.specs.Own.{Owned};
 use format::Column;
 use format::Opened;
 use format::WindowRow;
@@ -65,7 +59,7 @@ pub fn begin(left: &[u8], right: &[u8], line: &mut [u8; 128]) -> Begun
 
 // The rows that a comparison looks at: those of the window that has more.
 pub fn row_count(left: Column, right: Column) -> u32
-    ensures { λ r. ⌜ r ≡ max (left .window .rows) (right .window .rows) ⌝ }
+    ensures { λ r. ⌜ CountedAs left right r ⌝ }
 {
     if left.window.rows < right.window.rows {
         return right.window.rows;
@@ -85,9 +79,7 @@ pub fn fill_lines(
 ) -> Compared
     requires { ⌜ Owned (now lbytes) (left .column) (left .pass) ⌝ }
     requires { ⌜ Owned (now rbytes) (right .column) (right .pass) ⌝ }
-    ensures { λ r. ⌜ r ≡ comparedIn (ownRow (left .column) (now (lbytes .entry))) (ownRow (right .column) (now (rbytes .entry))) (max (left .column .window .rows) (right .column .window .rows)) (length (now (out .entry))) (from .0) ⌝ }
-    ensures { λ _. ⌜ now (out .exit) ≡ sets (now (out .entry)) 0 (pairChunk (ownRow (left .column) (now (lbytes .entry))) (ownRow (right .column) (now (rbytes .entry))) (max (left .column .window .rows) (right .column .window .rows)) (length (now (out .entry))) (from .0)) ⌝ }
-    ensures { λ r. ⌜ Counts (r .bytes) (now (out .exit)) ⌝ }
+    ensures { λ r. ⌜ ComparedAs (left .column) (now (lbytes .entry)) (right .column) (now (rbytes .entry)) (from .0) r (now (out .entry)) (now (out .exit)) ⌝ }
 {
     let column = left.column;
     let against = right.column;
@@ -123,8 +115,7 @@ pub fn fill_lines(
 
 // Writes the last line, with the count of lines before it, at the start of the lent one, and returns its length.
 pub fn end_line(lines: u32, line: &mut [u8; 128]) -> usize
-    ensures { λ r. ⌜ Wrote (now (line .entry)) 0 (namedLine (ascii "lines ") lines) (now (line .exit)) r ⌝ }
-    ensures { λ r. ⌜ Counts r (now (line .exit)) ⌝ }
+    ensures { λ r. ⌜ EndedAs lines r (now (line .entry)) (now (line .exit)) ⌝ }
 {
     named_line(b"lines ", lines as u64, line)
 }

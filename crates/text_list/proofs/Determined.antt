@@ -1,20 +1,15 @@
--- The contracts of the listing's calls determine what they answer and what every lent entry holds afterwards: two results that they allow coincide.
+-- What the listing's calls promise determines what they answer and what every lent entry holds afterwards: two results that it allows coincide.
 --     begin-determined, fill-lines-determined, end-line-determined
 -- Assumes nothing.
 use Prim.Native.Nat.{ℕ}
 use mathlib.Core.Path.{_≡_, sym, _∙_}
 use mathlib.Core.List.{List}
-use lib.ListN.{length}
-use lib.Seq.{sets}
 use Rattle.format.specs.declared.Column.{Column}
-use Rattle.format.specs.Listing.{ascii, namedLine, rowLine, openedHere}
-use Rattle.format.specs.Outcome.{Wrote}
+use Rattle.format.specs.Listing.{openedHere}
 use Rattle.text.specs.declared.Filled.{Filled}
-use Rattle.text.specs.Chunk.{chunk, filled}
-use Rattle.text_column.specs.Own.{ownRow}
 use Rattle.text_list.specs.declared.Begun.{Begun}
 use Rattle.text_list.specs.Beginning.{BegunAs}
-use Rattle.text_list.specs.Chunk.{lineMax}
+use Rattle.text_list.specs.Chunk.{FilledAs, EndedAs}
 
 -- two answers of `begin`, and what the lent line holds afterwards
 pub begin-determined : (s line : List ℕ) (a b : Begun) (new new′ : List ℕ)
@@ -22,17 +17,10 @@ pub begin-determined : (s line : List ℕ) (a b : Begun) (new new′ : List ℕ)
 begin-determined s line a b new new′ p q = (p .answer ∙ sym (q .answer), p .line ∙ sym (q .line))
 
 -- two answers of `fill_lines`, and what the lent buffer holds afterwards
-module _ (column : Column) (bytes : List ℕ) (from : ℕ) (out : List ℕ) where
-  abbrev answer : Filled
-  answer = filled (rowLine (ownRow column bytes)) lineMax (column .rows) (length out) from
-
-  abbrev written : List ℕ
-  written = sets out 0 (chunk (rowLine (ownRow column bytes)) lineMax (column .rows) (length out) from)
-
-  pub fill-lines-determined : (a b : Filled) (new new′ : List ℕ) → a ≡ answer → b ≡ answer → new ≡ written → new′ ≡ written → (a ≡ b) × (new ≡ new′)
-  fill-lines-determined a b new new′ p q n m = (p ∙ sym q, n ∙ sym m)
+pub fill-lines-determined : (column : Column) (s : List ℕ) (from : ℕ) (out : List ℕ) (a b : Filled) (new new′ : List ℕ)
+    → FilledAs column s from a out new → FilledAs column s from b out new′ → (a ≡ b) × (new ≡ new′)
+fill-lines-determined column s from out a b new new′ p q = (p .0 ∙ sym (q .0), p .1 .0 ∙ sym (q .1 .0))
 
 -- two answers of `end_line`, and what the lent line holds afterwards
-pub end-line-determined : (column : Column) (line : List ℕ) (a b : ℕ) (new new′ : List ℕ)
-    → Wrote line 0 (namedLine (ascii "end ") (column .rows)) new a → Wrote line 0 (namedLine (ascii "end ") (column .rows)) new′ b → (a ≡ b) × (new ≡ new′)
-end-line-determined column line a b new new′ p q = (p .ends ∙ sym (q .ends), p .list ∙ sym (q .list))
+pub end-line-determined : (column : Column) (line : List ℕ) (a b : ℕ) (new new′ : List ℕ) → EndedAs column a line new → EndedAs column b line new′ → (a ≡ b) × (new ≡ new′)
+end-line-determined column line a b new new′ p q = (p .0 .ends ∙ sym (q .0 .ends), p .0 .list ∙ sym (q .0 .list))

@@ -33,7 +33,7 @@ abbrev pub lineLength : Begun → ℕ
 lineLength (BegunColumn own n) = n
 lineLength (Refused number n) = n
 
--- the answer for some bytes by what opening them found, and the line before and after, whose first bytes the answer counts
+-- `begin` of some bytes by what opening them found: the answer, and the line before and after, whose first bytes the answer counts
 pub record BegunAs (s : List ℕ) (o : Outcome Loaded) (r : Begun) (old new : List ℕ) : Type 0 where
   pub answer : r ≡ begun s o
   pub line : new ≡ sets old 0 (firstLine o)

@@ -2,16 +2,10 @@
 // refused is a line of its own. No argument makes a call fail, and each contract says what every lent entry holds afterwards.
 mod lines;
 
-ghost use mathlib.Core.Path.{_≡_};
-ghost use lib.ListN.{length};
-ghost use lib.Seq.{sets};
-ghost use Rattle.io.specs.Counts.{Counts};
-ghost use Rattle.format.specs.Listing.{ascii, namedLine, rowLine, openedHere};
-ghost use Rattle.format.specs.Outcome.{Wrote};
+ghost use Rattle.format.specs.Listing.{openedHere};
 ghost use Rattle.text_list.specs.Beginning.{BegunAs};
-ghost use Rattle.text_list.specs.Chunk.{lineMax};
-ghost use Rattle.text.specs.Chunk.{chunk, filled};
-ghost use Rattle.text_column.specs.Own.{ownRow, Owned};
+ghost use Rattle.text_list.specs.Chunk.{FilledAs, EndedAs};
+ghost use Rattle.text_column.specs.Own.{Owned};
 use format::Column;
 use format::Opened;
 use format::WindowRow;
@@ -46,9 +40,7 @@ pub fn begin(bytes: &[u8], line: &mut [u8; 128]) -> Begun
 // line has room. A row that is refused has a line that says so.
 pub fn fill_lines(own: Own, bytes: &[u8], from: WindowRow, out: &mut [u8]) -> Filled
     requires { ⌜ Owned (now bytes) (own .column) (own .pass) ⌝ }
-    ensures { λ r. ⌜ r ≡ filled (rowLine (ownRow (own .column) (now (bytes .entry)))) lineMax (own .column .rows) (length (now (out .entry))) (from .0) ⌝ }
-    ensures { λ _. ⌜ now (out .exit) ≡ sets (now (out .entry)) 0 (chunk (rowLine (ownRow (own .column) (now (bytes .entry)))) lineMax (own .column .rows) (length (now (out .entry))) (from .0)) ⌝ }
-    ensures { λ r. ⌜ Counts (r .bytes) (now (out .exit)) ⌝ }
+    ensures { λ r. ⌜ FilledAs (own .column) (now (bytes .entry)) (from .0) r (now (out .entry)) (now (out .exit)) ⌝ }
 {
     let column = own.column;
     let mut values = [0u64; 512];
@@ -75,8 +67,7 @@ pub fn fill_lines(own: Own, bytes: &[u8], from: WindowRow, out: &mut [u8]) -> Fi
 
 // Writes the last line at the start of the lent one, and returns its length. Refused rows count.
 pub fn end_line(column: Column, line: &mut [u8; 128]) -> usize
-    ensures { λ r. ⌜ Wrote (now (line .entry)) 0 (namedLine (ascii "end ") (column .rows)) (now (line .exit)) r ⌝ }
-    ensures { λ r. ⌜ Counts r (now (line .exit)) ⌝ }
+    ensures { λ r. ⌜ EndedAs column r (now (line .entry)) (now (line .exit)) ⌝ }
 {
     named_line(b"end ", column.rows as u64, line)
 }

@@ -5,9 +5,10 @@ use mathlib.Core.Option.{Option, none, some}
 use mathlib.Core.List.{List, [], _++_}
 use lib.Dec.{leb}
 use lib.ListN.{length}
+use Rattle.io.specs.Counts.{Counts}
 use Rattle.format.specs.Listing.{ascii, named, namedLine, openedHere}
 use Rattle.format.specs.Opening.{Loaded}
-use Rattle.format.specs.Outcome.{Outcome, Outcome.value, Outcome.refusal, _>>_, demand}
+use Rattle.format.specs.Outcome.{Outcome, Outcome.value, Outcome.refusal, _>>_, demand, Wrote}
 use Rattle.format.specs.Reading.{rowAt}
 use Rattle.format.specs.Replaying.{Report, replayed}
 
@@ -33,3 +34,7 @@ reportOr (refusal number also) s recording = namedLine (ascii "column refused ")
 -- what the program writes of a column's bytes and a recording
 unfoldable pub report : (s recording : List ℕ) → List ℕ
 report s recording = reportOr (openedHere s) s recording
+
+-- the line before and after, at whose front so many bytes were written
+abbrev pub ReportedAs : (s recording : List ℕ) (n : ℕ) (old new : List ℕ) → Type 0
+ReportedAs s recording n old new = Wrote old 0 (report s recording) new n × Counts n new

@@ -3,9 +3,7 @@
 mod lines;
 mod running;
 
-ghost use Rattle.io.specs.Counts.{Counts};
-ghost use Rattle.format.specs.Outcome.{Wrote};
-ghost use Rattle.text_replay.specs.Report.{report as told};
+ghost use Rattle.text_replay.specs.Report.{ReportedAs};
 use format::Opened;
 use text::lines::named_line;
 use text::lines::refused_line;
@@ -16,8 +14,7 @@ const RECORDING_MAX: usize = 262144;
 // Opens the column, replays the recording over it, and writes what that reports at the start of the lent line; returns the line's length. A column that
 // does not open decides before the recording.
 pub fn report(bytes: &[u8], recording: &[u8], line: &mut [u8; 128]) -> usize
-    ensures { λ r. ⌜ Wrote (now (line .entry)) 0 (told (now (bytes .entry)) (now (recording .entry))) (now (line .exit)) r ⌝ }
-    ensures { λ r. ⌜ Counts r (now (line .exit)) ⌝ }
+    ensures { λ r. ⌜ ReportedAs (now (bytes .entry)) (now (recording .entry)) r (now (line .entry)) (now (line .exit)) ⌝ }
 {
     let opened = text_column::opening::open_plain(bytes);
     let Opened::Column(column, _) = opened else {

@@ -143,3 +143,18 @@ fn of_a_kind_and_through_a_window() {
     let mut builder = RecordingBuilder::new();
     assert_eq!(window.replay(&builder.record(&window, 0.0..=2.5, ..).unwrap().finish()), agree(1));
 }
+
+/// Rows 1 and 2 of 10, 30, 20: a lookup whose end lies behind all rows finds both, by the window's rows.
+#[test]
+fn through_a_window_by_its_rows() {
+    let whole = encode_with(&[10u64, 30, 20], &[Codec::Blockwise]).unwrap();
+    for bytes in [&BITPACKED[..], &whole] {
+        let column = Column::open(bytes).unwrap();
+        let window = column.window(1..3).unwrap();
+        let recorded = |found: &[u32]| RecordingBuilder::new().push(20..=30, 0..9, found).unwrap().finish();
+        assert_eq!(window.replay(&recorded(&[0, 1])), agree(1));
+        assert_eq!(window.replay(&recorded(&[1, 2])), differ(0));
+        assert_eq!(column.replay(&recorded(&[1, 2])), agree(1));
+        assert_eq!(column.replay(&recorded(&[0, 1])), differ(0));
+    }
+}
