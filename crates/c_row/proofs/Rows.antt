@@ -5,7 +5,7 @@
 --     packed-row, linear-row, blockwise-row   by the codec
 -- Assumes nothing.
 use mathlib.Core.Path.{_≡_, refl, sym, ap}
-use mathlib.Core.Bool.{Bool, true, false, _||_}
+use mathlib.Core.Bool.{true}
 use mathlib.Core.List.{List}
 use Prim.Native.Nat.{ℕ, _+_, _*_, _/_, _%_, _^_, _≤_, _<_}
 use native.Mathlib.Nat.{mul-comm, mul-le-mul-left}
@@ -21,6 +21,7 @@ use Rattle.format.specs.Line.{lineAt}
 use Rattle.format.specs.Packing.{width, legal}
 use Rattle.format.specs.Reading.{hasBlock, placeIn, columnFits, rowFits, fits, packedOf, valueIn, rowIn}
 use Rattle.format.specs.Word.{modAdd}
+use Rattle.format.proofs.Tests.{or-true}
 use Rattle.format.proofs.Widths.{width-legal, legal-narrow}
 use Rattle.c_numbers.specs.Numbers.{columnWith, codecFrom, countsFit, columnFrom}
 use Rattle.c_row.specs.Short.{rowOf, Shown, Bounded, Raised, Stands}
@@ -38,10 +39,6 @@ module _ (ns : List ℕ) (codec : Codec) (blocks : ℕ) (b : Block) (s : List �
   unfolding columnFits
   column-fits =
       rw (le-leb (getD ns 10 0 + getD ns 11 0) (getD ns 4 0) (at .window), lt-ltb 0 (getD ns 2 0) (bound .step), lt-ltb (getD ns 1 0 + getD ns 3 0 * getD ns 2 0) (2 ^ 64) (omega (arith, bound .most, bound .below)), le-leb (getD ns 5 0 + getD ns 6 0) (length s) (stands .area))
-
-  or-true : (a : Bool) → (a || true) ≡ true
-  or-true true = refl
-  or-true false = refl
 
   -- and so do column and table at the row
   row-fits : rowFits (columnWith ns codec) blocks b q ≡ true

@@ -6,8 +6,8 @@
 --     stored-shown                 the part that a window shows
 -- Assumes nothing.
 use mathlib.Core.Path.{_≡_, refl, sym, ap, _∙_}
-use mathlib.Core.List.{List, [], _∷_, map}
-use Prim.Native.Nat.{ℕ, zero, suc, _^_, _<_}
+use mathlib.Core.List.{List, [], _∷_}
+use Prim.Native.Nat.{ℕ, _^_, _<_}
 use lib.Dec.{ltb}
 use lib.ListN.{length, take, drop, getD, length-map}
 use Rattle.format.specs.declared.Kind.{Kind}
@@ -16,7 +16,7 @@ use Rattle.format.specs.declared.Kind.the-variants.{U64, I64, Date, Bool
 use Rattle.format.specs.Word.{AllBelow}
 use Rattle.format.specs.Typed.{storedIn, storedAs, signedBits}
 use Rattle.format.specs.Demands.{shown}
-use Rattle.format.proofs.Lists.{map-at}
+use Rattle.format.proofs.Lists.{map-at, take-map, drop-map}
 use Rattle.format.proofs.Mappings.{signed-fits, bits-in, flag-fits, float-fits}
 
 pub stored-length : (kind : Kind) (xs : List ℕ) → length (storedAs kind xs) ≡ length xs
@@ -53,16 +53,6 @@ unfolding storedIn
 stored-numbers [] = refl
 stored-numbers (x ∷ xs) = ap (λ (ys : List ℕ). x ∷ ys) (stored-numbers xs)
 
-map-take : (f : ℕ → ℕ) (n : ℕ) (xs : List ℕ) → map f (take n xs) ≡ take n (map f xs)
-map-take f zero xs = refl
-map-take f (suc n) [] = refl
-map-take f (suc n) (x ∷ xs) = ap (λ (ys : List ℕ). f x ∷ ys) (map-take f n xs)
-
-map-drop : (f : ℕ → ℕ) (n : ℕ) (xs : List ℕ) → map f (drop n xs) ≡ drop n (map f xs)
-map-drop f zero xs = refl
-map-drop f (suc n) [] = refl
-map-drop f (suc n) (x ∷ xs) = map-drop f n xs
-
 -- the stored numbers of what a window shows are what it shows of the stored numbers
 pub stored-shown : (kind : Kind) (w : Window) (xs : List ℕ) → storedAs kind (shown w xs) ≡ shown w (storedAs kind xs)
-stored-shown kind w xs = map-take (storedIn kind) (w .rows) (drop (w .first) xs) ∙ ap (take (w .rows)) (map-drop (storedIn kind) (w .first) xs)
+stored-shown kind w xs = take-map (storedIn kind) (w .rows) (drop (w .first) xs) ∙ ap (take (w .rows)) (drop-map (storedIn kind) (w .first) xs)

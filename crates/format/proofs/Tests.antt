@@ -1,10 +1,11 @@
 -- What a test that is known says.
 --     or-true, and-left, and-right             of two tests
 --     when, unless, as-when, as-unless         one of two statements by a test
+--     positive                                 a number that is not 0
 -- Assumes nothing.
 use mathlib.Core.Path.{_≡_, refl}
 use mathlib.Core.Bool.{Bool, true, false, _&&_, _||_}
-use Prim.Native.Nat.{ℕ}
+use Prim.Native.Nat.{ℕ, _<_}
 use native.Mathlib.Omega.{arith}
 use Rattle.format.specs.Outcome.{pick}
 
@@ -35,3 +36,7 @@ when A B false e x = let z : _≡_ {A = ℕ} 0 1 = cc in absurd (omega arith)
 pub unless : (A B : Type 0) (t : Bool) → t ≡ false → pick t A B → B
 unless A B false e x = x
 unless A B true e x = let z : _≡_ {A = ℕ} 0 1 = cc in absurd (omega arith)
+
+-- a number that is not 0
+pub positive : (n : ℕ) → (n ≡ 0 → ⊥) → 0 < n
+positive n h = omega arith

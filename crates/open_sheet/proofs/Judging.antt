@@ -7,7 +7,7 @@ use mathlib.Core.Path.{_≡_, refl, sym, ap, _∙_}
 use mathlib.Core.Bool.{Bool, true, false, _&&_}
 use mathlib.Core.Option.{Option, none, some}
 use mathlib.Core.List.{List}
-use Prim.Native.Nat.{ℕ, zero, suc, _-_, _*_, _/_, _^_, _<_, _≤_, min}
+use Prim.Native.Nat.{ℕ, _-_, _*_, _/_, _^_, _<_, _≤_, min}
 use native.Mathlib.Nat.{mul-le-mul-right}
 use native.Mathlib.Omega.{arith}
 use lib.ListN.{length, getD}
@@ -22,6 +22,7 @@ use Rattle.format.specs.Packing.{width}
 use Rattle.format.specs.Bodies.{blockCount}
 use Rattle.format.specs.Sheets.{lower, unclaimed, overfull, offending, lastFields, ending, strict}
 use Rattle.format.proofs.Outcomes.{not-value, value-same, by-step}
+use Rattle.format.proofs.Tests.{positive}
 use Rattle.blockwise_linear.specs.declared.reader.Last.{Last}
 use Rattle.blockwise_linear.specs.Reader.{upToLength, firstCursor, lastIn}
 use Rattle.open_sheet.specs.Faults.{heldAs, strictAs}
@@ -35,11 +36,6 @@ pub lower-second : (x y : ℕ) → y < x → some y ≡ lower (some x) (some y)
 lower-second x y h = let least : y ≡ min x y = omega arith in ap some least
 
 -- ---- filling bits
-
--- a number that is not 0
-above : (n : ℕ) → (n ≡ 0 → ⊥) → 0 < n
-above zero h = absurd (h refl)
-above (suc n) h = omega arith
 
 pub full-byte : (s : List ℕ) (last bits : ℕ) → bits ≡ 0 → none ≡ overfull s last bits
 full-byte s last bits e = rw e
@@ -56,7 +52,7 @@ zero-filled s last bits byte is e =
 pub one-filled : (s : List ℕ) (last bits byte : ℕ) → (bits ≡ 0 → ⊥) → byte ≡ getD s last 0 → (byte / 2 ^ bits ≡ 0 → ⊥) → some last ≡ overfull s last bits
 one-filled s last bits byte more is e =
     let ones : getD s last 0 / 2 ^ bits ≡ 0 → ⊥ = rw is at e in
-    rw (lt-ltb 0 bits (above bits more), lt-ltb 0 (getD s last 0 / 2 ^ bits) (above _ ones))
+    rw (lt-ltb 0 bits (positive bits more), lt-ltb 0 (getD s last 0 / 2 ^ bits) (positive _ ones))
 
 -- the bits of all rows are counted
 pub few-bits : (wide bits rows : ℕ) → wide ≡ bits → bits < 256 → rows < 2 ^ 32 → wide * rows < 2 ^ 64

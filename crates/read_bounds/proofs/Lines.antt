@@ -16,6 +16,7 @@ use Rattle.format.specs.declared.Line.{Line}
 use Rattle.format.specs.Line.{lineAt}
 use Rattle.format.specs.Packing.{width}
 use Rattle.format.specs.Word.{modAdd, modSub, modMul, signed32}
+use Rattle.format.proofs.Lines.{line-below}
 use Rattle.format.proofs.Lists.{below-or}
 use Rattle.format.proofs.Words.{signed-low, signed-high}
 use Rattle.read_bounds.specs.Looks.{Gentle, Near}
@@ -136,10 +137,6 @@ half-small a p h = omega arith
 -- steps up to one place and to another behind it
 ups : (p q t : ℕ) → q ≤ t → q - p ≤ t - p
 ups p q t h = omega arith
-
-line-below : (l : Line) (x : ℕ) → lineAt l x < 2 ^ 64
-unfolding lineAt
-line-below l x = omega arith
 
 module _ (l : Line) (bits from to low span start end top : ℕ) (order : from ≤ to) (small : low < 2 ^ 64) (narrow : 2 ^ bits ≤ 2 ^ 56)
     (starts : start ≡ modSub (lineAt l from) low) (ends : end ≡ modSub (lineAt l to) low) (tops : top ≡ max start end) (early : top < 2 ^ 62) (enough : top + (2 ^ bits - 1) ≤ span) where

@@ -1,11 +1,10 @@
 -- `stats::gcd_of` meets its contract. The loop's invariant: the gcd of the two numbers is that of the two given ones.
 -- Assumes nothing.
 use mathlib.Core.Path.{_≡_, refl, sym, _∙_}
-use Prim.Native.Nat.{ℕ, _<_}
 use native.Mathlib.Nat.{mod-lt}
-use native.Mathlib.Omega.{arith}
 use Rattle.format.specs.Stats.{gcd}
 use Rattle.format.proofs.Gcds.{gcd-zero, gcd-turn}
+use Rattle.format.proofs.Tests.{positive}
 use Rattle.stats_collector.proofs.gcd_of.Statement.{statement}
 use Rattle.stats_collector.proofs.gcd_of.Tie as tie
 
@@ -14,9 +13,6 @@ Inv-loop a b large₀ small₀ large small = gcd large small ≡ gcd a b
 
 abbrev μ-loop : tie.MeasureT-loop
 μ-loop a b large₀ small₀ large small = small
-
-positive : (n : ℕ) → (n ≡ 0 → ⊥) → 0 < n
-positive n h = omega arith
 
 loop-holds : tie.Need-loop-holds Inv-loop μ-loop
 loop-holds c = refl
