@@ -12,7 +12,9 @@ use Rattle.format.specs.declared.Block.{Block}
 use Rattle.format.specs.declared.Column.{Column}
 use Rattle.format.specs.declared.Window.{Window}
 use Rattle.format.specs.Outcome.{Outcome, Outcome.value, _>>=_, _>>_, demand, pick, howMany}
+use Rattle.format.specs.Calls.{StoredAs}
 use Rattle.format.specs.Reading.{blockAt, rowAt}
+use Rattle.format.specs.Refusals.{storedMeaning}
 use Rattle.format.specs.Runs.{readRun}
 use Rattle.read_walk.specs.declared.Walk.{Walk}
 use Rattle.format.specs.declared.Stored.{Stored}

@@ -29,7 +29,7 @@ returns-2 : tie.Need-returns-2
 returns-2 c =
     let told = c .before .before .decoded .given .1 in
     let p = c .before .before .before .before .pre in (
-      (λ k read window o before list values f d n room. rw told (ended (c .over .ensures .0) (c .over .ensures .1) (refuses k read f _ (p .1) _ (refused-run d told)))),
+      (λ k read window o before list values f d n room. rw told (ended (c .over .ensures .0) (c .over .ensures .1) (refuses k read f _ (p .1) (c .before .before .decoded .given .0 .0) (refused-run d told)))),
       falls-over _ (p .0) (c .over .result) (c .over .ensures .0),
     )
 
