@@ -1,16 +1,13 @@
 // A column from any writer checked against the list of values that it is to hold: it is passed, or the first reason why not. No argument makes a
 // call fail, and each contract says what it answers and what the lent table holds afterwards.
-ghost use lib.ListN.{length};
-ghost use Rattle.format.specs.Sheets.{openedUnder};
-ghost use Rattle.format.specs.Typed.{storedAs};
-ghost use Rattle.table_check.specs.Checked.{CheckedAs};
+ghost use Rattle.table_check.specs.Checked.{ChecksAs, KindChecksAs};
 use format::Block;
 use format::Checked;
 use format::Kind;
 
 // Opens a column under an acceptance sheet and checks it against a list of numbers.
 pub fn check(sheet: u32, bytes: &[u8], values: &[u64], table: &mut [Block]) -> Checked
-    ensures { λ r. ⌜ CheckedAs (openedUnder sheet (now (bytes .entry)) (length (now (table .entry)))) (now (bytes .entry)) (now (values .entry)) r (now (table .entry)) (now (table .exit)) ⌝ }
+    ensures { λ r. ⌜ ChecksAs sheet (now (bytes .entry)) (now (values .entry)) r (now (table .entry)) (now (table .exit)) ⌝ }
 {
     check_as(Kind::U64, sheet, bytes, values, table)
 }
@@ -23,7 +20,7 @@ pub fn check_as(
     values: &[u64],
     table: &mut [Block],
 ) -> Checked
-    ensures { λ r. ⌜ CheckedAs (openedUnder sheet (now (bytes .entry)) (length (now (table .entry)))) (now (bytes .entry)) (storedAs kind (now (values .entry))) r (now (table .entry)) (now (table .exit)) ⌝ }
+    ensures { λ r. ⌜ KindChecksAs kind sheet (now (bytes .entry)) (now (values .entry)) r (now (table .entry)) (now (table .exit)) ⌝ }
 {
     let opened = table::open_under(sheet, bytes, table);
     check_verdict::verdict_on(kind, opened, bytes, values)

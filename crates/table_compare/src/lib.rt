@@ -1,6 +1,5 @@
 // Where two opened columns differ, each with its block table, a lent list of block records, and its bytes.
-ghost use mathlib.Core.Path.{_≡_};
-ghost use Rattle.compare_walk.specs.Differences.{columnsDiffer, differenceMeaning};
+ghost use Rattle.table_compare.specs.Calls.{DiffersAs};
 use compare_walk::Difference;
 use format::Block;
 use format::Column;
@@ -16,7 +15,7 @@ pub fn difference(
     rbytes: &[u8],
     from: u32,
 ) -> Difference
-    ensures { λ r. ⌜ differenceMeaning r ≡ columnsDiffer left (now (ltable .entry)) (now (lbytes .entry)) right (now (rtable .entry)) (now (rbytes .entry)) from ⌝ }
+    ensures { λ r. ⌜ DiffersAs left (now (ltable .entry)) (now (lbytes .entry)) right (now (rtable .entry)) (now (rbytes .entry)) from r ⌝ }
 {
     let lblocks = ltable.len();
     let rblocks = rtable.len();

@@ -1,4 +1,4 @@
--- What a replay answers is determined by its contract.
+-- What a replay answers is determined by what it promises.
 --     replay-determined
 -- Assumes nothing.
 use Prim.Native.Nat.{ℕ}
@@ -7,12 +7,9 @@ use mathlib.Core.List.{List}
 use Rattle.format.specs.declared.Block.{Block}
 use Rattle.format.specs.declared.Column.{Column}
 use Rattle.format.specs.declared.Replayed.{Replayed}
-use Rattle.format.specs.Reading.{rowAt}
-use Rattle.format.specs.Refusals.{replayedMeaning}
-use Rattle.format.specs.Replaying.{replayed}
 use Rattle.format.proofs.Answers.{replayed-injective}
+use Rattle.table_replay.specs.Calls.{ReplaysAs}
 
 -- two answers of `replay`
-pub replay-determined : (column : Column) (table : List Block) (bytes recording : List ℕ) (a b : Replayed)
-    → replayedMeaning a ≡ replayed (rowAt column table bytes) (column .window .rows) recording → replayedMeaning b ≡ replayed (rowAt column table bytes) (column .window .rows) recording → a ≡ b
-replay-determined column table bytes recording a b p q = replayed-injective a b (p ∙ sym q)
+pub replay-determined : (column : Column) (t : List Block) (s recording : List ℕ) (a b : Replayed) → ReplaysAs column t s recording a → ReplaysAs column t s recording b → a ≡ b
+replay-determined column t s recording a b p q = replayed-injective a b (p ∙ sym q)

@@ -1,15 +1,12 @@
 // Recorded lookups, replayed over an opened column with its block table, a lent list of block records.
-ghost use mathlib.Core.Path.{_≡_};
-ghost use Rattle.format.specs.Reading.{rowAt};
-ghost use Rattle.format.specs.Refusals.{replayedMeaning};
-ghost use Rattle.format.specs.Replaying.{replayed};
+ghost use Rattle.table_replay.specs.Calls.{ReplaysAs};
 use format::Block;
 use format::Column;
 use format::Replayed;
 
 // Runs the recorded lookups one after another, up to the first whose rows are not the recorded ones.
 pub fn replay(column: Column, table: &[Block], bytes: &[u8], recording: &[u8]) -> Replayed
-    ensures { λ r. ⌜ replayedMeaning r ≡ replayed (rowAt column (now (table .entry)) (now (bytes .entry))) (column .window .rows) (now (recording .entry)) ⌝ }
+    ensures { λ r. ⌜ ReplaysAs column (now (table .entry)) (now (bytes .entry)) (now (recording .entry)) r ⌝ }
 {
     let blocks = table.len();
     let rows = column.window.rows;
