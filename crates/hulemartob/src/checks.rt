@@ -1,6 +1,5 @@
 // Columns checked against lists.
-ghost use lib.ListN.{length};
-ghost use Rattle.hulemartob.specs.Calls.{Judges};
+ghost use Rattle.hulemartob.specs.Exports.{CheckPromise};
 use c_answers::checks::verdict_told;
 use c_numbers::kinds::kind_from;
 use c_numbers::kinds::kind_of;
@@ -18,7 +17,7 @@ pub extern "C" fn hulemartob_check(
     verdict: &mut [u64; 3],
     refusal: &mut [u64; 2],
 )
-    ensures { λ _. ⌜ Judges kind sheet (now (bytes .entry)) (now (values .entry)) (length (now (table .entry))) (now (refusal .exit)) (now (verdict .entry)) (now (verdict .exit)) (now (table .entry)) (now (table .exit)) ⌝ }
+    ensures { λ _. ⌜ CheckPromise kind sheet (now (bytes .entry)) (now (values .entry)) (now (refusal .exit)) (now (verdict .entry)) (now (verdict .exit)) (now (table .entry)) (now (table .exit)) ⌝ }
 {
     let known = kind_from(kind);
     let values_kind = kind_of(known);

@@ -1,6 +1,5 @@
 // Where two columns differ.
-ghost use Rattle.c_numbers.specs.Explaining.{Tells};
-ghost use Rattle.hulemartob.specs.Differing.{differenceFrom};
+ghost use Rattle.hulemartob.specs.Exports.{DifferencePromise};
 use c_answers::differs::difference_told;
 use c_numbers::column_from;
 use c_numbers::column_of;
@@ -19,7 +18,7 @@ pub extern "C" fn hulemartob_difference(
     difference: &mut [u64; 7],
     refusal: &mut [u64; 2],
 )
-    ensures { λ _. ⌜ Tells (differenceFrom (now (left .entry)) (now (ltable .entry)) (now (lbytes .entry)) (now (right .entry)) (now (rtable .entry)) (now (rbytes .entry)) from) (now (refusal .exit)) (now (difference .entry)) (now (difference .exit)) ⌝ }
+    ensures { λ _. ⌜ DifferencePromise (now (left .entry)) (now (ltable .entry)) (now (lbytes .entry)) (now (right .entry)) (now (rtable .entry)) (now (rbytes .entry)) from (now (refusal .exit)) (now (difference .entry)) (now (difference .exit)) ⌝ }
 {
     let lmade = column_from(left);
     let lopened = column_of(lmade);

@@ -10,14 +10,7 @@ mod parts;
 mod replays;
 mod typed;
 
-ghost use lib.ListN.{length};
-ghost use Rattle.format.specs.Opening.{opened};
-ghost use Rattle.format.specs.Sheets.{openedUnder};
-ghost use Rattle.format.specs.Stats.{stated};
-ghost use Rattle.format.specs.Writing.{written};
-ghost use Rattle.c_numbers.specs.Numbers.{Answers, Narrows, States};
-ghost use Rattle.c_tableless.specs.Calls.{narrowedFrom};
-ghost use Rattle.hulemartob.specs.Calls.{rowFrom, foundFrom, runFrom, Lists, Loads};
+ghost use Rattle.hulemartob.specs.Exports.{ColumnStatsPromise, SerializePromise, OpenPromise, OpenUnderPromise, NarrowPromise, RowPromise, LookupPromise, RunPromise};
 use c_answers::column_told;
 use c_answers::entries_told;
 use c_answers::length_told;
@@ -34,7 +27,7 @@ pub extern "C" fn hulemartob_column_stats(
     stats: &mut [u64; 4],
     refusal: &mut [u64; 2],
 )
-    ensures { λ _. ⌜ States (stated (now (values .entry))) (now (refusal .exit)) (now (stats .entry)) (now (stats .exit)) ⌝ }
+    ensures { λ _. ⌜ ColumnStatsPromise (now (values .entry)) (now (refusal .exit)) (now (stats .entry)) (now (stats .exit)) ⌝ }
 {
     let answer = u64_based::column_stats(values);
     stats_told(answer, stats, refusal);
@@ -48,7 +41,7 @@ pub extern "C" fn hulemartob_serialize(
     out: &mut [u8],
     refusal: &mut [u64; 2],
 ) -> usize
-    ensures { λ r. ⌜ Lists (written (now (values .entry)) (now (codecs .entry)) (length (now (out .entry)))) r (now (refusal .exit)) (now (out .entry)) (now (out .exit)) ⌝ }
+    ensures { λ r. ⌜ SerializePromise (now (values .entry)) (now (codecs .entry)) r (now (refusal .exit)) (now (out .entry)) (now (out .exit)) ⌝ }
 {
     let answer = u64_based::serialize(values, codecs, out);
     length_told(answer, refusal)
@@ -63,7 +56,7 @@ pub extern "C" fn hulemartob_open(
     column: &mut [u64; 12],
     refusal: &mut [u64; 2],
 ) -> u64
-    ensures { λ r. ⌜ Loads (opened (now (bytes .entry)) (length (now (table .entry)))) r (now (refusal .exit)) (now (column .entry)) (now (column .exit)) (now (table .entry)) (now (table .exit)) ⌝ }
+    ensures { λ r. ⌜ OpenPromise (now (bytes .entry)) r (now (refusal .exit)) (now (column .entry)) (now (column .exit)) (now (table .entry)) (now (table .exit)) ⌝ }
 {
     let answer = table::open(bytes, table);
     open_told(answer, column, refusal)
@@ -78,7 +71,7 @@ pub extern "C" fn hulemartob_open_under(
     column: &mut [u64; 12],
     refusal: &mut [u64; 2],
 ) -> u64
-    ensures { λ r. ⌜ Loads (openedUnder sheet (now (bytes .entry)) (length (now (table .entry)))) r (now (refusal .exit)) (now (column .entry)) (now (column .exit)) (now (table .entry)) (now (table .exit)) ⌝ }
+    ensures { λ r. ⌜ OpenUnderPromise sheet (now (bytes .entry)) r (now (refusal .exit)) (now (column .entry)) (now (column .exit)) (now (table .entry)) (now (table .exit)) ⌝ }
 {
     let answer = table::open_under(sheet, bytes, table);
     open_told(answer, column, refusal)
@@ -92,7 +85,7 @@ pub extern "C" fn hulemartob_narrow(
     count: u32,
     refusal: &mut [u64; 2],
 )
-    ensures { λ _. ⌜ Narrows (narrowedFrom (now (column .entry)) first count) (now (refusal .exit)) (now (column .entry)) (now (column .exit)) ⌝ }
+    ensures { λ _. ⌜ NarrowPromise first count (now (refusal .exit)) (now (column .entry)) (now (column .exit)) ⌝ }
 {
     let made = c_tableless::narrowed(column, first, count);
     column_told(made, column, refusal);
@@ -107,7 +100,7 @@ pub extern "C" fn hulemartob_row(
     row: u32,
     refusal: &mut [u64; 2],
 ) -> u64
-    ensures { λ r. ⌜ Answers (rowFrom (now (column .entry)) (now (table .entry)) (now (bytes .entry)) row) r (now (refusal .exit)) ⌝ }
+    ensures { λ r. ⌜ RowPromise (now (column .entry)) (now (table .entry)) (now (bytes .entry)) row r (now (refusal .exit)) ⌝ }
 {
     let blocks = table.len();
     let k = c_tableless::block_for(column, row);
@@ -128,7 +121,7 @@ pub extern "C" fn hulemartob_lookup(
     found: &mut [u32],
     refusal: &mut [u64; 2],
 ) -> usize
-    ensures { λ r. ⌜ Lists (foundFrom (now (column .entry)) (now (table .entry)) (now (bytes .entry)) low high first end (length (now (found .entry)))) r (now (refusal .exit)) (now (found .entry)) (now (found .exit)) ⌝ }
+    ensures { λ r. ⌜ LookupPromise (now (column .entry)) (now (table .entry)) (now (bytes .entry)) low high first end r (now (refusal .exit)) (now (found .entry)) (now (found .exit)) ⌝ }
 {
     let made = column_from(column);
     let opened = column_of(made);
@@ -146,7 +139,7 @@ pub extern "C" fn hulemartob_run(
     out: &mut [u64],
     refusal: &mut [u64; 2],
 ) -> usize
-    ensures { λ r. ⌜ Lists (runFrom (now (column .entry)) (now (table .entry)) (now (bytes .entry)) first (length (now (out .entry)))) r (now (refusal .exit)) (now (out .entry)) (now (out .exit)) ⌝ }
+    ensures { λ r. ⌜ RunPromise (now (column .entry)) (now (table .entry)) (now (bytes .entry)) first r (now (refusal .exit)) (now (out .entry)) (now (out .exit)) ⌝ }
 {
     let made = column_from(column);
     let opened = column_of(made);

@@ -1,6 +1,5 @@
 // What a byte is, and the rows that it names.
-ghost use Rattle.c_numbers.specs.Explaining.{Tells};
-ghost use Rattle.hulemartob.specs.Calls.{partFrom, rowsFrom};
+ghost use Rattle.hulemartob.specs.Exports.{PartAtPromise, RowsAtPromise};
 use byte_part::PartRead;
 use byte_part::naming::block_of;
 use byte_part::naming::which_part;
@@ -21,7 +20,7 @@ pub extern "C" fn hulemartob_part_at(
     part: &mut [u64; 5],
     refusal: &mut [u64; 2],
 )
-    ensures { λ _. ⌜ Tells (partFrom (now (column .entry)) (now (bytes .entry)) offset) (now (refusal .exit)) (now (part .entry)) (now (part .exit)) ⌝ }
+    ensures { λ _. ⌜ PartAtPromise (now (column .entry)) (now (bytes .entry)) offset (now (refusal .exit)) (now (part .entry)) (now (part .exit)) ⌝ }
 {
     let opened = match column_from(column) {
         Made::Column(opened) => opened,
@@ -60,7 +59,7 @@ pub extern "C" fn hulemartob_rows_at(
     rows: &mut [u64; 2],
     refusal: &mut [u64; 2],
 )
-    ensures { λ _. ⌜ Tells (rowsFrom (now (column .entry)) (now (table .entry)) (now (bytes .entry)) offset) (now (refusal .exit)) (now (rows .entry)) (now (rows .exit)) ⌝ }
+    ensures { λ _. ⌜ RowsAtPromise (now (column .entry)) (now (table .entry)) (now (bytes .entry)) offset (now (refusal .exit)) (now (rows .entry)) (now (rows .exit)) ⌝ }
 {
     let made = column_from(column);
     let opened = column_of(made);

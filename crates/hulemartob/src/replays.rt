@@ -1,6 +1,5 @@
 // Recorded lookups, replayed.
-ghost use Rattle.c_answers.specs.Replaying.{Reports};
-ghost use Rattle.hulemartob.specs.Calls.{replayedFrom};
+ghost use Rattle.hulemartob.specs.Exports.{ReplayPromise};
 use c_answers::replays::report_told;
 use c_numbers::column_from;
 use c_numbers::column_of;
@@ -16,7 +15,7 @@ pub extern "C" fn hulemartob_replay(
     report: &mut [u64; 2],
     refusal: &mut [u64; 2],
 )
-    ensures { λ _. ⌜ Reports (replayedFrom (now (column .entry)) (now (table .entry)) (now (bytes .entry)) (now (recording .entry))) (now (refusal .exit)) (now (report .entry)) (now (report .exit)) ⌝ }
+    ensures { λ _. ⌜ ReplayPromise (now (column .entry)) (now (table .entry)) (now (bytes .entry)) (now (recording .entry)) (now (refusal .exit)) (now (report .entry)) (now (report .exit)) ⌝ }
 {
     let made = column_from(column);
     let opened = column_of(made);

@@ -1,12 +1,7 @@
 // Columns of signed numbers, dates, bools and floats. A list of any kind is lent as 64-bit words, with the kind's number: 0 plain numbers, 1 signed numbers,
 // 2 dates, 3 bools, 4 floats. What a row's value reads as is a call on that number, what a run's values read as one on the list of them, and a lookup by values is one in the range of stored numbers that
 // a call makes of its bounds: so no call here takes a column.
-ghost use mathlib.Core.Path.{_≡_};
-ghost use lib.ListN.{length};
-ghost use Rattle.format.specs.Typed.{signedOf, flagOf, floatOf, signedRange, flagRange, floatRange};
-ghost use Rattle.c_numbers.specs.Numbers.{filled, States};
-ghost use Rattle.c_tableless.specs.Calls.{statedFrom, writtenFrom};
-ghost use Rattle.hulemartob.specs.Calls.{rangeNumbers, wordsFrom, Lists};
+ghost use Rattle.hulemartob.specs.Exports.{ColumnStatsAsPromise, SerializeAsPromise, I64OfPromise, BoolOfPromise, F64BitsOfPromise, ValuesAsPromise, I64RangePromise, BoolRangePromise, F64RangePromise};
 use c_answers::length_told;
 use c_answers::stats_told;
 use c_numbers::kinds::kind_from;
@@ -22,7 +17,7 @@ pub extern "C" fn hulemartob_column_stats_as(
     stats: &mut [u64; 4],
     refusal: &mut [u64; 2],
 )
-    ensures { λ _. ⌜ States (statedFrom kind (now (values .entry))) (now (refusal .exit)) (now (stats .entry)) (now (stats .exit)) ⌝ }
+    ensures { λ _. ⌜ ColumnStatsAsPromise kind (now (values .entry)) (now (refusal .exit)) (now (stats .entry)) (now (stats .exit)) ⌝ }
 {
     let answer = c_tableless::stated(kind, values);
     stats_told(answer, stats, refusal);
@@ -37,7 +32,7 @@ pub extern "C" fn hulemartob_serialize_as(
     out: &mut [u8],
     refusal: &mut [u64; 2],
 ) -> usize
-    ensures { λ r. ⌜ Lists (writtenFrom kind (now (values .entry)) (now (codecs .entry)) (length (now (out .entry)))) r (now (refusal .exit)) (now (out .entry)) (now (out .exit)) ⌝ }
+    ensures { λ r. ⌜ SerializeAsPromise kind (now (values .entry)) (now (codecs .entry)) r (now (refusal .exit)) (now (out .entry)) (now (out .exit)) ⌝ }
 {
     let answer = c_tableless::written(kind, values, codecs, out);
     length_told(answer, refusal)
@@ -48,7 +43,7 @@ pub extern "C" fn hulemartob_serialize_as(
 // What a stored number reads as: a signed number, or a date's nanoseconds.
 #[no_mangle]
 pub extern "C" fn hulemartob_i64_of(stored: u64) -> i64
-    ensures { λ r. ⌜ r ≡ signedOf stored ⌝ }
+    ensures { λ r. ⌜ I64OfPromise stored r ⌝ }
 {
     monotonic_mapping::signed_of(stored)
 }
@@ -56,7 +51,7 @@ pub extern "C" fn hulemartob_i64_of(stored: u64) -> i64
 // A bool.
 #[no_mangle]
 pub extern "C" fn hulemartob_bool_of(stored: u64) -> bool
-    ensures { λ r. ⌜ r ≡ flagOf stored ⌝ }
+    ensures { λ r. ⌜ BoolOfPromise stored r ⌝ }
 {
     monotonic_mapping::flag_of(stored)
 }
@@ -64,7 +59,7 @@ pub extern "C" fn hulemartob_bool_of(stored: u64) -> bool
 // The bits of a float.
 #[no_mangle]
 pub extern "C" fn hulemartob_f64_bits_of(stored: u64) -> u64
-    ensures { λ r. ⌜ r ≡ floatOf stored ⌝ }
+    ensures { λ r. ⌜ F64BitsOfPromise stored r ⌝ }
 {
     monotonic_mapping::float_of(stored)
 }
@@ -72,7 +67,7 @@ pub extern "C" fn hulemartob_f64_bits_of(stored: u64) -> u64
 // The values of a kind that a list of stored numbers reads as, in their place, lent as words; where the number is no kind, the list stays as it was.
 #[no_mangle]
 pub extern "C" fn hulemartob_values_as(kind: u32, list: &mut [u64])
-    ensures { λ _. ⌜ now (list .exit) ≡ filled (wordsFrom kind (now (list .entry))) (now (list .entry)) ⌝ }
+    ensures { λ _. ⌜ ValuesAsPromise kind (now (list .entry)) (now (list .exit)) ⌝ }
 {
     let known = kind_from(kind);
     let read_as = kind_of(known);
@@ -84,7 +79,7 @@ pub extern "C" fn hulemartob_values_as(kind: u32, list: &mut [u64])
 // The first and the last stored number of the signed numbers, or dates, from low to high.
 #[no_mangle]
 pub extern "C" fn hulemartob_i64_range(low: i64, high: i64, range: &mut [u64; 2])
-    ensures { λ _. ⌜ now (range .exit) ≡ rangeNumbers (signedRange low high) ⌝ }
+    ensures { λ _. ⌜ I64RangePromise low high (now (range .exit)) ⌝ }
 {
     let stored = monotonic_mapping::signed_range(low, high);
     *range = [stored.low, stored.high];
@@ -93,7 +88,7 @@ pub extern "C" fn hulemartob_i64_range(low: i64, high: i64, range: &mut [u64; 2]
 // Of the bools.
 #[no_mangle]
 pub extern "C" fn hulemartob_bool_range(low: bool, high: bool, range: &mut [u64; 2])
-    ensures { λ _. ⌜ now (range .exit) ≡ rangeNumbers (flagRange low high) ⌝ }
+    ensures { λ _. ⌜ BoolRangePromise low high (now (range .exit)) ⌝ }
 {
     let stored = monotonic_mapping::flag_range(low, high);
     *range = [stored.low, stored.high];
@@ -102,7 +97,7 @@ pub extern "C" fn hulemartob_bool_range(low: bool, high: bool, range: &mut [u64;
 // Of the floats, by their bits.
 #[no_mangle]
 pub extern "C" fn hulemartob_f64_range(low: u64, high: u64, range: &mut [u64; 2])
-    ensures { λ _. ⌜ now (range .exit) ≡ rangeNumbers (floatRange low high) ⌝ }
+    ensures { λ _. ⌜ F64RangePromise low high (now (range .exit)) ⌝ }
 {
     let stored = monotonic_mapping::float_range(low, high);
     *range = [stored.low, stored.high];

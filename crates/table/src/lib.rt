@@ -6,14 +6,9 @@ ghost use mathlib.Core.Path.{_≡_};
 ghost use Prim.Native.Nat.{_/_, _%_, _^_};
 ghost use lib.ListN.{length};
 ghost use Rattle.format.specs.Outcome.{stored};
-ghost use Rattle.format.specs.Refusals.{rowMeaning};
-ghost use Rattle.format.specs.Opening.{opened};
-ghost use Rattle.format.specs.Sheets.{openedUnder};
-ghost use Rattle.format.specs.Lookup.{lookedUp, within};
-ghost use Rattle.format.specs.Reading.{noBlock, columnRow, blockAt, rowAt};
-ghost use Rattle.format.specs.Runs.{decoded};
-ghost use Rattle.format.specs.Calls.{OpenedAs, StoredAs};
+ghost use Rattle.format.specs.Reading.{noBlock, columnRow};
 ghost use Rattle.blockwise_linear.specs.Reader.{firstCursor, blocksFrom, listed, Fillable};
+ghost use Rattle.table.specs.Calls.{BlockAs, OpensAs, OpensUnderAs, RowAs, LooksAs, RunsAs};
 use format::Block;
 use format::Column;
 use format::Line;
@@ -39,7 +34,7 @@ fn no_block() -> Block
 
 // Block `k` of a table; a block past the table's end is all zeros.
 pub fn block_at(table: &[Block], k: usize) -> Block
-    ensures { λ r. ⌜ r ≡ blockAt (now (table .entry)) k ⌝ }
+    ensures { λ r. ⌜ BlockAs (now (table .entry)) k r ⌝ }
 {
     if k < table.len() {
         return table[k];
@@ -57,7 +52,7 @@ fn block_of(column: Column, row: WindowRow) -> usize
 
 // The value of a row of an opened column's window, with its table and its bytes.
 pub fn row(column: Column, table: &[Block], bytes: &[u8], row: WindowRow) -> RowRead
-    ensures { λ r. ⌜ rowMeaning r ≡ rowAt column (now (table .entry)) (now (bytes .entry)) (row .0) ⌝ }
+    ensures { λ r. ⌜ RowAs column (now (table .entry)) (now (bytes .entry)) (row .0) r ⌝ }
 {
     let blocks = table.len();
     let k = block_of(column, row);
@@ -76,7 +71,7 @@ pub fn lookup(
     end: u32,
     found: &mut [u32],
 ) -> Stored
-    ensures { λ r. ⌜ StoredAs (lookedUp (rowAt column (now (table .entry)) (now (bytes .entry))) (column .window .rows) (within low high) first end (length (now (found .entry)))) r (now (found .entry)) (now (found .exit)) ⌝ }
+    ensures { λ r. ⌜ LooksAs column (now (table .entry)) (now (bytes .entry)) low high first end r (now (found .entry)) (now (found .exit)) ⌝ }
 {
     let blocks = table.len();
     let window = column.window;
@@ -91,7 +86,7 @@ pub fn lookup(
 
 // The values of the window's rows from `first` on, as many as the lent list has entries, into that list.
 pub fn run(column: Column, table: &[Block], bytes: &[u8], first: u32, out: &mut [u64]) -> Stored
-    ensures { λ r. ⌜ StoredAs (decoded (rowAt column (now (table .entry)) (now (bytes .entry))) (column .window .rows) first (length (now (out .entry)))) r (now (out .entry)) (now (out .exit)) ⌝ }
+    ensures { λ r. ⌜ RunsAs column (now (table .entry)) (now (bytes .entry)) first r (now (out .entry)) (now (out .exit)) ⌝ }
 {
     let blocks = table.len();
     let rows = out.len();
@@ -123,7 +118,7 @@ fn fill(bytes: &[u8], rows: u32, table: &mut [Block])
 // Opens a column under an acceptance sheet, says how its numbers are spelled, and puts the blocks of a Blockwise one into the lent table, a
 // record a block. A refusal leaves the table as it was; so does a column without blocks.
 pub fn open_under(sheet: u32, bytes: &[u8], table: &mut [Block]) -> Opened
-    ensures { λ r. ⌜ OpenedAs (openedUnder sheet (now (bytes .entry)) (length (now (table .entry)))) r (now (table .entry)) (now (table .exit)) ⌝ }
+    ensures { λ r. ⌜ OpensUnderAs sheet (now (bytes .entry)) r (now (table .entry)) (now (table .exit)) ⌝ }
 {
     let room = table.len();
     let answer = open_column::open_plain_under(sheet, bytes, room);
@@ -134,7 +129,7 @@ pub fn open_under(sheet: u32, bytes: &[u8], table: &mut [Block]) -> Opened
 
 // Opens a column under sheet 1.
 pub fn open(bytes: &[u8], table: &mut [Block]) -> Opened
-    ensures { λ r. ⌜ OpenedAs (opened (now (bytes .entry)) (length (now (table .entry)))) r (now (table .entry)) (now (table .exit)) ⌝ }
+    ensures { λ r. ⌜ OpensAs (now (bytes .entry)) r (now (table .entry)) (now (table .exit)) ⌝ }
 {
     open_under(1, bytes, table)
 }

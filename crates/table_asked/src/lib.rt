@@ -1,15 +1,7 @@
 // What else is asked of an opened column over its block table, a lent list of block records: recorded lookups, where it differs from another, whose a byte is, and whether it holds a list.
 // No argument makes a call fail, and each contract says what it answers and what the lent table holds afterwards.
-ghost use mathlib.Core.Path.{_≡_};
-ghost use lib.ListN.{length};
-ghost use Rattle.format.specs.Reading.{rowAt};
-ghost use Rattle.format.specs.Refusals.{replayedMeaning};
-ghost use Rattle.format.specs.Replaying.{replayed};
-ghost use Rattle.format.specs.Sheets.{openedUnder};
-ghost use Rattle.format.specs.Typed.{storedAs};
-ghost use Rattle.byte_owner.specs.Bytes.{rowsOf, rowsMeaning};
-ghost use Rattle.compare_walk.specs.Differences.{columnsDiffer, differenceMeaning};
-ghost use Rattle.table_asked.specs.Checked.{CheckedAs};
+ghost use Rattle.table_asked.specs.Calls.{ReplaysAs, DiffersAs, RowsAs};
+ghost use Rattle.table_asked.specs.Checked.{ChecksAs, KindChecksAs};
 use byte_owner::RowsRead;
 use compare_walk::Difference;
 use format::Block;
@@ -20,7 +12,7 @@ use format::Replayed;
 
 // Runs the recorded lookups one after another, up to the first whose rows are not the recorded ones.
 pub fn replay(column: Column, table: &[Block], bytes: &[u8], recording: &[u8]) -> Replayed
-    ensures { λ r. ⌜ replayedMeaning r ≡ replayed (rowAt column (now (table .entry)) (now (bytes .entry))) (column .window .rows) (now (recording .entry)) ⌝ }
+    ensures { λ r. ⌜ ReplaysAs column (now (table .entry)) (now (bytes .entry)) (now (recording .entry)) r ⌝ }
 {
     let blocks = table.len();
     let rows = column.window.rows;
@@ -44,7 +36,7 @@ pub fn difference(
     rbytes: &[u8],
     from: u32,
 ) -> Difference
-    ensures { λ r. ⌜ differenceMeaning r ≡ columnsDiffer left (now (ltable .entry)) (now (lbytes .entry)) right (now (rtable .entry)) (now (rbytes .entry)) from ⌝ }
+    ensures { λ r. ⌜ DiffersAs left (now (ltable .entry)) (now (lbytes .entry)) right (now (rtable .entry)) (now (rbytes .entry)) from r ⌝ }
 {
     let lblocks = ltable.len();
     let rblocks = rtable.len();
@@ -72,7 +64,7 @@ pub fn difference(
 // The rows that own a bit of the byte at an offset, from the first to the last, with the column's table. None does before the packed area, behind it, and where a
 // byte of it has filling bits only.
 pub fn rows_at(column: Column, table: &[Block], bytes: &[u8], offset: usize) -> RowsRead
-    ensures { λ r. ⌜ rowsMeaning r ≡ rowsOf (now (bytes .entry)) column (now (table .entry)) offset ⌝ }
+    ensures { λ r. ⌜ RowsAs column (now (table .entry)) (now (bytes .entry)) offset r ⌝ }
 {
     let mut search = byte_owner::begin(column, bytes, offset);
     while 0 < search.left {
@@ -85,7 +77,7 @@ pub fn rows_at(column: Column, table: &[Block], bytes: &[u8], offset: usize) -> 
 
 // Opens a column from any writer under an acceptance sheet and checks it against the list of numbers that it is to hold: it is passed, or the first reason why not.
 pub fn check(sheet: u32, bytes: &[u8], values: &[u64], table: &mut [Block]) -> Checked
-    ensures { λ r. ⌜ CheckedAs (openedUnder sheet (now (bytes .entry)) (length (now (table .entry)))) (now (bytes .entry)) (now (values .entry)) r (now (table .entry)) (now (table .exit)) ⌝ }
+    ensures { λ r. ⌜ ChecksAs sheet (now (bytes .entry)) (now (values .entry)) r (now (table .entry)) (now (table .exit)) ⌝ }
 {
     check_as(Kind::U64, sheet, bytes, values, table)
 }
@@ -98,7 +90,7 @@ pub fn check_as(
     values: &[u64],
     table: &mut [Block],
 ) -> Checked
-    ensures { λ r. ⌜ CheckedAs (openedUnder sheet (now (bytes .entry)) (length (now (table .entry)))) (now (bytes .entry)) (storedAs kind (now (values .entry))) r (now (table .entry)) (now (table .exit)) ⌝ }
+    ensures { λ r. ⌜ KindChecksAs kind sheet (now (bytes .entry)) (now (values .entry)) r (now (table .entry)) (now (table .exit)) ⌝ }
 {
     let opened = table::open_under(sheet, bytes, table);
     check_verdict::verdict_on(kind, opened, bytes, values)

@@ -2,19 +2,10 @@
 // bytes at a time as a lent buffer has room for; and how many bytes and rows there are. A side that does not open, unequal lengths and a field that
 // differs are a line of their own: then the bytes of the area do not tell which rows changed. No argument makes a call fail, and each contract says what
 // every lent entry holds afterwards.
-ghost use mathlib.Core.Path.{_≡_};
-ghost use lib.ListN.{length};
-ghost use lib.Seq.{sets};
-ghost use Rattle.io.specs.Counts.{Counts};
 ghost use Rattle.format.specs.Listing.{openedHere};
-ghost use Rattle.format.specs.Outcome.{Wrote};
-ghost use Rattle.text.specs.Chunk.{chunk};
 ghost use Rattle.text_column.specs.Own.{Opens};
 ghost use Rattle.text_blame.specs.Beginning.{starts, BegunAs};
-ghost use Rattle.text_blame_bytes.specs.Owners.{ownersFound};
-ghost use Rattle.text_blame_bytes.specs.Tallies.{tallied};
-ghost use Rattle.text_blame_lines.specs.Bytes.{blameMax, textAt, endLine};
-ghost use Rattle.text_blame.specs.Chunk.{lookedIn};
+ghost use Rattle.text_blame.specs.Chunk.{LookedAs, EndedAs};
 use format::Column;
 use format::Opened;
 use text::lines::refused_line;
@@ -95,9 +86,7 @@ pub fn fill_lines(
     out: &mut [u8],
 ) -> Looked
     requires { ⌜ Opens (now lbytes) left × Opens (now rbytes) right ⌝ }
-    ensures { λ r. ⌜ r ≡ lookedIn (textAt left (now (lbytes .entry)) right (now (rbytes .entry))) (length (now (lbytes .entry))) (length (now (out .entry))) from ⌝ }
-    ensures { λ _. ⌜ now (out .exit) ≡ sets (now (out .entry)) 0 (chunk (textAt left (now (lbytes .entry)) right (now (rbytes .entry))) blameMax (length (now (lbytes .entry))) (length (now (out .entry))) from) ⌝ }
-    ensures { λ r. ⌜ Counts (r .bytes) (now (out .exit)) ⌝ }
+    ensures { λ r. ⌜ LookedAs left (now (lbytes .entry)) right (now (rbytes .entry)) from r (now (out .entry)) (now (out .exit)) ⌝ }
 {
     let mut l = text_column::own::begin(lbytes, left);
     let mut r = text_column::own::begin(rbytes, right);
@@ -123,8 +112,7 @@ pub fn fill_lines(
 // the lent one, and returns its length. A row that several bytes name is counted once.
 pub fn end_line(column: Column, left: &[u8], right: &[u8], line: &mut [u8; 128]) -> usize
     requires { ⌜ Opens (now left) column ⌝ }
-    ensures { λ r. ⌜ Wrote (now (line .entry)) 0 (endLine (tallied (ownersFound column (now (left .entry))) (now (left .entry)) (now (right .entry)))) (now (line .exit)) r ⌝ }
-    ensures { λ r. ⌜ Counts r (now (line .exit)) ⌝ }
+    ensures { λ r. ⌜ EndedAs column (now (left .entry)) (now (right .entry)) r (now (line .entry)) (now (line .exit)) ⌝ }
 {
     let tally = counting::count(column, left, right);
     lines::count_line(tally.bytes, tally.rows, line)

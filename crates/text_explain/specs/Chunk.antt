@@ -53,3 +53,9 @@ toldIn s col room n = record {
   parts = chunkRows (textAt s col) partMax (length (partsOf s col)) room n;
   bytes = length (chunk (textAt s col) partMax (length (partsOf s col)) room n);
 }
+
+-- `fill_lines` of a column and its bytes from a part on: what was taken, and the buffer before and after, whose first bytes the answer counts
+abbrev pub ToldAs : (column : Column) (s : List ℕ) (from : ℕ) (r : Told) (old new : List ℕ) → Type 0
+ToldAs column s from r old new =
+    (r ≡ toldIn s column (length old) from)
+    × ((new ≡ sets old 0 (chunk (textAt s column) partMax (length (partsOf s column)) (length old) from)) × Counts (r .bytes) new)

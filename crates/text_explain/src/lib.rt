@@ -3,15 +3,8 @@
 mod lines;
 pub mod words;
 
-ghost use mathlib.Core.Path.{_≡_};
-ghost use lib.ListN.{length};
-ghost use lib.Seq.{sets};
-ghost use Rattle.io.specs.Counts.{Counts};
 ghost use Rattle.format.specs.Listing.{openedHere};
-ghost use Rattle.format.specs.Parts.{partsOf};
-ghost use Rattle.text.specs.Chunk.{chunk};
-ghost use Rattle.text_explain.specs.Explained.{partMax, textAt};
-ghost use Rattle.text_explain.specs.Chunk.{BegunAs, Placed, toldIn};
+ghost use Rattle.text_explain.specs.Chunk.{BegunAs, Placed, ToldAs};
 use byte_part::Cursor;
 use byte_part::Walked;
 use format::Column;
@@ -65,9 +58,7 @@ fn place_of(column: Column, bytes: &[u8], number: usize) -> Cursor
 // Writes the lines of the parts from number `from` on at the start of a buffer, while a longest line has room. A part of no bytes has no line. A call that
 // takes no part, though a longest line has room, finds none left.
 pub fn fill_lines(column: Column, bytes: &[u8], from: usize, out: &mut [u8]) -> Told
-    ensures { λ r. ⌜ r ≡ toldIn (now (bytes .entry)) column (length (now (out .entry))) from ⌝ }
-    ensures { λ _. ⌜ now (out .exit) ≡ sets (now (out .entry)) 0 (chunk (textAt (now (bytes .entry)) column) partMax (length (partsOf (now (bytes .entry)) column)) (length (now (out .entry))) from) ⌝ }
-    ensures { λ r. ⌜ Counts (r .bytes) (now (out .exit)) ⌝ }
+    ensures { λ r. ⌜ ToldAs column (now (bytes .entry)) from r (now (out .entry)) (now (out .exit)) ⌝ }
 {
     let mut place = place_of(column, bytes, from);
     let mut p = from;

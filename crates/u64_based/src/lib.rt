@@ -1,12 +1,6 @@
 // Writing a column of numbers of 64 bits: the statistics of values, and their bytes. No argument makes a call fail but by a numbered refusal, and each contract
 // says what a call answers and what every lent entry holds afterwards. Opening stands in `open_column`.
-ghost use mathlib.Core.Path.{_≡_};
-ghost use lib.ListN.{length};
-ghost use Rattle.format.specs.Refusals.{statedMeaning};
-ghost use Rattle.format.specs.Stats.{stated};
-ghost use Rattle.format.specs.Writing.{written};
-ghost use Rattle.format.specs.Typed.{storedAs};
-ghost use Rattle.format.specs.Calls.{StoredAs};
+ghost use Rattle.u64_based.specs.Calls.{StatsAs, KindStatsAs, WritesAs, KindWritesAs};
 use format::Kind;
 use format::Refusal;
 use format::Stated;
@@ -16,14 +10,14 @@ use write_codec::choice::Place;
 
 // The statistics of some values.
 pub fn column_stats(values: &[u64]) -> Stated
-    ensures { λ r. ⌜ statedMeaning r ≡ stated (now (values .entry)) ⌝ }
+    ensures { λ r. ⌜ StatsAs (now (values .entry)) r ⌝ }
 {
     column_stats_as(Kind::U64, values)
 }
 
 // The statistics of the numbers that values of a kind are stored as.
 pub fn column_stats_as(kind: Kind, values: &[u64]) -> Stated
-    ensures { λ r. ⌜ statedMeaning r ≡ stated (storedAs kind (now (values .entry))) ⌝ }
+    ensures { λ r. ⌜ KindStatsAs kind (now (values .entry)) r ⌝ }
 {
     if 0xffff_ffff < values.len() {
         return Stated::Refused(Refusal::TooManyValues);
@@ -33,7 +27,7 @@ pub fn column_stats_as(kind: Kind, values: &[u64]) -> Stated
 
 // Writes the values by the listed codec that takes least.
 pub fn serialize(values: &[u64], codecs: &[u8], out: &mut [u8]) -> Stored
-    ensures { λ r. ⌜ StoredAs (written (now (values .entry)) (now (codecs .entry)) (length (now (out .entry)))) r (now (out .entry)) (now (out .exit)) ⌝ }
+    ensures { λ r. ⌜ WritesAs (now (values .entry)) (now (codecs .entry)) r (now (out .entry)) (now (out .exit)) ⌝ }
 {
     serialize_as(Kind::U64, values, codecs, out)
 }
@@ -41,7 +35,7 @@ pub fn serialize(values: &[u64], codecs: &[u8], out: &mut [u8]) -> Stored
 // Writes values of a kind, as the numbers that they are stored as. Each pass over them reads a value as its stored number; no list of
 // those is made.
 pub fn serialize_as(kind: Kind, values: &[u64], codecs: &[u8], out: &mut [u8]) -> Stored
-    ensures { λ r. ⌜ StoredAs (written (storedAs kind (now (values .entry))) (now (codecs .entry)) (length (now (out .entry)))) r (now (out .entry)) (now (out .exit)) ⌝ }
+    ensures { λ r. ⌜ KindWritesAs kind (now (values .entry)) (now (codecs .entry)) r (now (out .entry)) (now (out .exit)) ⌝ }
 {
     if 0xffff_ffff < values.len() {
         return Stored::Refused(Refusal::TooManyValues);
