@@ -5,6 +5,8 @@ pub mod Types
 pub mod ReplayRounds
 pub mod CompareRounds
 pub mod ByteRounds
+-- a search among a table's blocks
+pub mod Cut
 -- what opening found
 pub mod Tables
 -- of the calls

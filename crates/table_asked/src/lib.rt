@@ -1,8 +1,13 @@
 // What else is asked of an opened column over its block table, a lent list of block records: recorded lookups, where it differs from another, whose a byte is, and whether it holds a list.
 // No argument makes a call fail, and each contract says what it answers and what the lent table holds afterwards.
+ghost use mathlib.Core.Path.{_≡_};
+ghost use mathlib.Core.List.{List};
+ghost use lib.ListN.{length};
+ghost use Rattle.byte_owner.specs.Search.{searched, Searching};
 ghost use Rattle.table_asked.specs.Calls.{ReplaysAs, DiffersAs, RowsAs};
 ghost use Rattle.table_asked.specs.Checked.{ChecksAs, KindChecksAs};
 use byte_owner::RowsRead;
+use byte_owner::Search;
 use compare_walk::Difference;
 use format::Block;
 use format::Checked;
@@ -61,12 +66,34 @@ pub fn difference(
     w.answer
 }
 
+// Internal: asks for a search of the column's blocks. The same among a table's blocks alone: those past its end have no rows, so that of a
+// made-up column with many rows no more blocks are asked than there are.
+fn in_table(column: Column, search: Search, blocks: usize) -> Search
+    requires { ⌜ Searching (column .rows) search ⌝ }
+    ensures { λ r. ⌜ Searching (column .rows) r × ((table : List Block) → length table ≡ blocks → searched table (column .rows) r ≡ searched table (column .rows) search) ⌝ }
+{
+    let next = search.next;
+    if next + search.left as usize <= blocks {
+        return search;
+    }
+    let end = if next < blocks { blocks } else { next };
+    let answer = search.answer;
+    Search {
+        next,
+        left: (end - next) as u32,
+        byte: search.byte,
+        answer,
+    }
+}
+
 // The rows that own a bit of the byte at an offset, from the first to the last, with the column's table. None does before the packed area, behind it, and where a
 // byte of it has filling bits only.
 pub fn rows_at(column: Column, table: &[Block], bytes: &[u8], offset: usize) -> RowsRead
     ensures { λ r. ⌜ RowsAs column (now (table .entry)) (now (bytes .entry)) offset r ⌝ }
 {
     let mut search = byte_owner::begin(column, bytes, offset);
+    let blocks = table.len();
+    search = in_table(column, search, blocks);
     while 0 < search.left {
         let next = search.next;
         let block = table::block_at(table, next);

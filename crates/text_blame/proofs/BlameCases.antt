@@ -10,7 +10,7 @@ use Rattle.format.specs.Varint.{scan, readVarint}
 use Rattle.format.specs.Packing.{bytesNum, width, bitLength, bitsIn, unpack, rowsBits, bitsOf, numOf}
 use Rattle.format.specs.Stats.{readHead}
 use Rattle.format.specs.Line.{lineAt}
-use Rattle.format.specs.Opening.{opened, openBody, openBitpacked, openBlockwise, readWidth, readFields, readBlocks}
+use Rattle.format.specs.Opening.{opened, openBody, openBitpacked, openLinear, openBlockwise, readWidth, readFields, readBlocks}
 use Rattle.format.specs.Reading.{rowIn, placeIn, columnFits, rowFits, fits, packedOf, valueIn}
 use Rattle.format.specs.Parts.{blockNames, extent, spelled, partsFrom, partIn, runOwners, blockOwners, areaOwners, ownersAt}
 use Rattle.format.specs.Listing.{decimalIn, decimal, named, namedLine, rowTexts, openedHere}
@@ -31,6 +31,15 @@ fives first second behind = 0x00 ∷ 0x80 ∷ 0x81 ∷ 0x9F ∷ 0x84 ∷ first �
 abbrev pub spared : (behind first second : ℕ) → List ℕ
 spared behind first second =
     0x02 ∷ 0x8A ∷ 0x8A ∷ 0x82 ∷ 0x83 ∷ 0x18 ∷ behind ∷ 0x80 ∷ 0x80 ∷ 0x02 ∷ first ∷ second ∷ 0x05 ∷ 0x00 ∷ 0x00 ∷ 0x00 ∷ []
+
+-- Linear, two rows of one bit above a line through 10, by the line's slope and the area's byte
+abbrev pub straight : (slope area : ℕ) → List ℕ
+straight slope area = 0x01 ∷ 0x8A ∷ 0x81 ∷ 0x82 ∷ 0x82 ∷ slope ∷ 0x8A ∷ 0x01 ∷ area ∷ []
+
+-- Blockwise, 513 rows: a block without bits, and one of a row of one bit
+abbrev pub two-blocks : (area : ℕ) → List ℕ
+two-blocks area =
+    0x02 ∷ 0x80 ∷ 0x81 ∷ 0x81 ∷ 0x01 ∷ 0x84 ∷ area ∷ 0x80 ∷ 0x80 ∷ 0x00 ∷ 0x80 ∷ 0x80 ∷ 0x01 ∷ 0x06 ∷ 0x00 ∷ 0x00 ∷ 0x00 ∷ []
 
 -- a code that there is not
 abbrev pub unknown : List ℕ
@@ -53,6 +62,8 @@ cases =
     -- with 18 row 2 reads otherwise, with 0C row 1 is out of bounds; all three have bits in the byte
     ∷ record { left = p10 0x08; right = p10 0x18; lines = "byte 5 area" ∷ "row 0 10 10" ∷ "row 1 30 30" ∷ "row 2 20 30" ∷ "bytes 1 rows 3" ∷ [] }
     ∷ record { left = p10 0x08; right = p10 0x0C; lines = "byte 5 area" ∷ "row 0 10 10" ∷ "row 1 30 refused 14" ∷ "row 2 20 20" ∷ "bytes 1 rows 3" ∷ [] }
+    -- with 0C and 1C row 1 is out of bounds on both sides
+    ∷ record { left = p10 0x0C; right = p10 0x1C; lines = "byte 5 area" ∷ "row 0 10 10" ∷ "row 1 refused 14 refused 14" ∷ "row 2 20 30" ∷ "bytes 1 rows 3" ∷ [] }
     -- rows 1 to 3 alone own a bit of the second byte; row 1 is named by two bytes and counted once
     ∷ record { left = fives 0x00 0x00 0xFF; right = fives 0x00 0x01 0xFF; lines = "byte 6 area" ∷ "row 1 0 8" ∷ "row 2 0 0" ∷ "row 3 0 0" ∷ "bytes 1 rows 3" ∷ [] }
     ∷ record {
@@ -60,11 +71,17 @@ cases =
       right = fives 0x20 0x01 0xFF;
       lines = "byte 5 area" ∷ "row 0 0 0" ∷ "row 1 0 9" ∷ "byte 6 area" ∷ "row 1 0 9" ∷ "row 2 0 0" ∷ "row 3 0 0" ∷ "bytes 2 rows 4" ∷ [];
     }
+    -- a bit that fills up the last byte changes no row
+    ∷ record { left = straight 0x80 0x01; right = straight 0x80 0x05; lines = "byte 8 area" ∷ "row 0 11 11" ∷ "row 1 10 10" ∷ "bytes 1 rows 2" ∷ [] }
+    ∷ record { left = straight 0x80 0x01; right = straight 0x80 0x02; lines = "byte 8 area" ∷ "row 0 11 10" ∷ "row 1 10 11" ∷ "bytes 1 rows 2" ∷ [] }
+    -- the first byte of the area is the second block's
+    ∷ record { left = two-blocks 0x00; right = two-blocks 0x01; lines = "byte 6 area" ∷ "row 512 0 1" ∷ "bytes 1 rows 1" ∷ [] }
     -- bytes that no row owns: behind the area, left over in the footer
     ∷ record { left = fives 0x00 0x00 0xFF; right = fives 0x00 0x00 0xFE; lines = "byte 8 behind" ∷ "bytes 1 rows 0" ∷ [] }
     ∷ record { left = spared 0xFF 0xAA 0xBB; right = spared 0xFE 0xAA 0xBC; lines = "byte 6 behind" ∷ "byte 11 spare" ∷ "bytes 2 rows 0" ∷ [] }
     -- a field is the only line, though the area differs too
     ∷ record { left = p9; right = 0x00 ∷ 0x8B ∷ 0x8A ∷ 0x82 ∷ 0x83 ∷ 0x08 ∷ []; lines = "fields differ at byte 1 minimum" ∷ [] }
+    ∷ record { left = straight 0x80 0x01; right = straight 0x81 0x01; lines = "fields differ at byte 5 slope" ∷ [] }
     -- unequal lengths come before fields
     ∷ record { left = p9; right = 0x00 ∷ 0x8B ∷ 0x8A ∷ 0x82 ∷ 0x83 ∷ 0x18 ∷ 0xFF ∷ []; lines = "lengths differ 6 7" ∷ [] }
     -- refusals come before lengths, and the left one first
@@ -74,5 +91,5 @@ cases =
     ∷ []
 
 pub cases-hold : map (λ (c : Case). blame (c .left) (c .right)) cases ≡ map (λ (c : Case). text (c .lines)) cases
-unfolding scan readVarint bytesNum width bitLength bitsIn unpack rowsBits bitsOf numOf readHead lineAt opened openBody openBitpacked openBlockwise readWidth readFields readBlocks rowIn placeIn columnFits rowFits fits packedOf valueIn blockNames extent spelled partsFrom partIn runOwners blockOwners areaOwners ownersAt decimalIn decimal named namedLine rowTexts openedHere partOf rowsOf firstField lengthsLine fieldLine byteLine bothLine textAt tallyFrom blame
+unfolding scan readVarint bytesNum width bitLength bitsIn unpack rowsBits bitsOf numOf readHead lineAt opened openBody openBitpacked openLinear openBlockwise readWidth readFields readBlocks rowIn placeIn columnFits rowFits fits packedOf valueIn blockNames extent spelled partsFrom partIn runOwners blockOwners areaOwners ownersAt decimalIn decimal named namedLine rowTexts openedHere partOf rowsOf firstField lengthsLine fieldLine byteLine bothLine textAt tallyFrom blame
 cases-hold = refl

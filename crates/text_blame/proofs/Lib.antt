@@ -5,6 +5,7 @@ pub mod Beginnings
 -- what the calls come to
 pub mod Blames
 pub mod Listed
+pub mod Ascending
 pub mod Determined
 -- computed cases
 pub mod BlameCases
