@@ -1,40 +1,31 @@
 // Lists the columns of a file of cases, each below its title, through the calls that `list` makes. tools/answers/shown.py wrote the file, and says what has to be printed.
-ghost use Prim.Native.Nat.{_<_};
+ghost use Prim.Native.Nat.{_≤_, _<_};
 ghost use lib.ListN.{length};
-ghost use Rattle.text_column.specs.Own.{Owned};
-use format::WindowRow;
+ghost use Rattle.text_list.specs.Way.{handMax};
 use libc::STDOUT_FILENO;
-use text_column::own::Own;
-use text_list::Begun;
+use text_list::way;
 use tool_files::cases::length_at;
 
-// Internal: asks for a column that was opened of these bytes. Writes the lines of the rows from `from` on for which a small buffer has room, and returns how many rows they are.
-fn show_rows(own: Own, bytes: &[u8], from: u32) -> u32
-    requires { ⌜ Owned (now bytes) (own .column) (own .pass) ⌝ }
+// Internal: asks for a buffer that has room for the longest line, so that each turn is handed some text. Writes the listing of some bytes, a bufferful at a time, until a write fails.
+fn write_listing(bytes: &[u8], out: &mut [u8])
+    requires { ⌜ handMax ≤ length (now out) ⌝ }
 {
-    let mut out = io::buffer();
-    let took = text_list::fill_lines(own, bytes, WindowRow(from), &mut out);
-    let n = took.bytes;
-    io::write_all(STDOUT_FILENO, &out[..n]);
-    took.rows
+    let mut at = way::begin();
+    while way::more(at) {
+        let handed = way::fill(at, bytes, out);
+        let n = handed.bytes;
+        if !io::write_all(STDOUT_FILENO, &out[..n]) {
+            return;
+        }
+        at = handed.way;
+    }
 }
 
-// Writes a title and the listing of some bytes. Two buffers have room for the rows of every column here.
+// Writes a title and the listing of some bytes, through a small buffer.
 fn show(title: &[u8], bytes: &[u8]) {
     io::write_all(STDOUT_FILENO, title);
-    let mut line = [0u8; 128];
-    match text_list::begin(bytes, &mut line) {
-        Begun::Refused(_, n) => {
-            io::write_all(STDOUT_FILENO, &line[..n]);
-        }
-        Begun::Column(own, n) => {
-            io::write_all(STDOUT_FILENO, &line[..n]);
-            let next = show_rows(own, bytes, 0);
-            show_rows(own, bytes, next);
-            let end = text_list::end_line(own.column, &mut line);
-            io::write_all(STDOUT_FILENO, &line[..end]);
-        }
-    }
+    let mut out = io::buffer();
+    write_listing(bytes, &mut out);
 }
 
 // Internal: asks for an offset within the file. Shows the case that begins there: the lengths of its title and its column, then these. Returns the offset behind it, or

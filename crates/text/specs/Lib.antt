@@ -1,2 +1,3 @@
 pub mod Chunk
 pub mod Refused
+pub mod Way

@@ -4,6 +4,7 @@
 pub mod Beginnings
 -- a row's line
 pub mod RowLines
+-- the way from chunk to chunk
+pub mod Ways
 -- what the calls come to
-pub mod Listings
 pub mod Determined

@@ -1,6 +1,7 @@
 // A column as text: the first line, the rows' lines, as many at a time as a lent buffer has room for, and the last line. What is
 // refused is a line of its own. No argument makes a call fail, and each contract says what every lent entry holds afterwards.
 mod lines;
+pub mod way;
 
 ghost use Rattle.format.specs.Listing.{openedHere};
 ghost use Rattle.text_list.specs.Beginning.{BegunAs};

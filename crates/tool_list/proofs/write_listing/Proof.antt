@@ -1,102 +1,80 @@
--- `write_listing` is safe: the line's length that beginning answers lies inside the line.
+-- `write_listing` is safe and ends: it is handed a chunk at each turn, and each makes the way shorter.
 -- Assumes nothing.
-use Rattle.io.specs.Counts.{Counts}
-use borrow.Author.Needs.{needs}
-use Rattle.text_list.proofs.Beginnings.{begun-owned}
+use Prim.Native.Nat.{_≤_}
+use mathlib.Core.Path.{_≡_, refl, sym, _∙_}
+use native.Mathlib.Omega.{arith}
+use lib.ListN.{length}
+use Rattle.text_list.specs.Way.{handMax, Stands}
+use Rattle.text_list.proofs.Ways.{left, handed-less}
 use Rattle.tool_list.proofs.write_listing.Statement.{statement}
 use Rattle.tool_list.proofs.write_listing.Tie as tie
 
-begin-requires : tie.Need-begin-requires
-begin-requires c κs = search needs
+abbrev Inv-loop : tie.InvT-loop
+Inv-loop bytes out₀ at₀ out at = Stands bytes at × (handMax ≤ length out) × (length out ≡ length out₀)
 
-enum-known-n : tie.Need-enum-known-n
-enum-known-n c = search needs
+abbrev μ-loop : tie.MeasureT-loop
+μ-loop bytes out₀ at₀ out at = left bytes at
 
--- a refusal's line is there
-only-line : (c : tie.After-n) → Counts (c .n .given .0 .1 .0) (c .before .before .begin .last .1 .0)
-only-line c = rw (c .n .given .1) at (c .before .before .begin .ensures .counts)
+begin-requires : tie.Need-begin-requires Inv-loop μ-loop
+begin-requires c κs = tt
 
-array-share-prefix-line : tie.Need-array-share-prefix-line
-array-share-prefix-line c = only-line (c .before) .0
+loop-holds : tie.Need-loop-holds Inv-loop μ-loop
+loop-holds c = (rw (c .begin .ensures) tt, c .before .before .before .pre, refl)
 
-slice-aggregate-write-all : tie.Need-slice-aggregate-write-all
-slice-aggregate-write-all c = only-line (c .before .before) .1
+more-requires : tie.Need-more-requires Inv-loop μ-loop
+more-requires c κs = tt
 
-write-all-requires : tie.Need-write-all-requires
-write-all-requires c κs = search needs
+fill-requires : tie.Need-fill-requires Inv-loop μ-loop
+fill-requires c κs = c .before .before .before .loop .inv .0
 
-enum-known-own : tie.Need-enum-known-own
-enum-known-own c = search needs
+slice-reshare-prefix-write-all : tie.Need-slice-reshare-prefix-write-all Inv-loop μ-loop
+slice-reshare-prefix-write-all c = c .before .before .fill .ensures .counts .0
 
--- a column's first line is there
-first-line : (c : tie.After-own) → Counts (c .own .given .0 .1 .0) (c .before .before .begin .last .1 .0)
-first-line c = rw (c .own .given .1) at (c .before .before .begin .ensures .counts)
+slice-aggregate-write-all : tie.Need-slice-aggregate-write-all Inv-loop μ-loop
+slice-aggregate-write-all c = c .before .before .before .fill .ensures .counts .1
 
-large-buffer-requires : tie.Need-large-buffer-requires
-large-buffer-requires c κs = search needs
+write-all-requires : tie.Need-write-all-requires Inv-loop μ-loop
+write-all-requires c κs = tt
 
-array-share-prefix-line-2 : tie.Need-array-share-prefix-line-2
-array-share-prefix-line-2 c = first-line (c .before .before) .0
+same-length : tie.Need-same-length Inv-loop μ-loop
+same-length c = omega (arith, c .before .before .before .before .before .fill .kept)
 
-slice-aggregate-write-all-2 : tie.Need-slice-aggregate-write-all-2
-slice-aggregate-write-all-2 c = first-line (c .before .before .before) .1
+returns : tie.Need-returns Inv-loop μ-loop
+returns c = tt
 
-write-all-requires-2 : tie.Need-write-all-requires-2
-write-all-requires-2 c κs = search needs
+loop-less : tie.Need-loop-less Inv-loop μ-loop
+loop-less c =
+    let f = c .before .before .before .before .before in
+    let more = f .before .before .before in
+    handed-less (more .before .loop .inv .1) (sym (more .more .ensures) ∙ f .before .before .if1 .taken) (f .fill .ensures)
 
-returns : tie.Need-returns
-returns c = search needs
+loop-again : tie.Need-loop-again Inv-loop μ-loop
+loop-again c =
+    let f = c .before .before .before .before .before in
+    (f .fill .ensures .stands, omega (arith, f .fill .kept), omega (arith, f .fill .kept))
 
-slice-aggregate-write-rows : tie.Need-slice-aggregate-write-rows
-slice-aggregate-write-rows c = search needs
+same-length-2 : tie.Need-same-length-2 Inv-loop μ-loop
+same-length-2 c = omega arith
 
-write-rows-requires : tie.Need-write-rows-requires
-write-rows-requires c κs =
-    let o = c .before .before .before .before .before .before in
-    (begun-owned (rw (o .own .given .1) at (o .before .before .begin .ensures)), search needs)
-
-returns-2 : tie.Need-returns-2
-returns-2 c = search needs
-
-end-line-requires : tie.Need-end-line-requires
-end-line-requires c κs = search needs
-
-array-share-prefix-line-3 : tie.Need-array-share-prefix-line-3
-array-share-prefix-line-3 c = search needs
-
-slice-aggregate-write-all-3 : tie.Need-slice-aggregate-write-all-3
-slice-aggregate-write-all-3 c = search needs
-
-write-all-requires-3 : tie.Need-write-all-requires-3
-write-all-requires-3 c κs = search needs
-
-returns-3 : tie.Need-returns-3
-returns-3 c = search needs
-
-returns-4 : tie.Need-returns-4
-returns-4 c = search needs
+returns-2 : tie.Need-returns-2 Inv-loop μ-loop
+returns-2 c = tt
 
 pub write-listing-spec : {M : Type 1} → statement M
 write-listing-spec =
     tie.close
     (tie.spec
+    Inv-loop
+    μ-loop
     begin-requires
-    enum-known-n
-    array-share-prefix-line
+    loop-holds
+    more-requires
+    fill-requires
+    slice-reshare-prefix-write-all
     slice-aggregate-write-all
     write-all-requires
-    enum-known-own
-    large-buffer-requires
-    array-share-prefix-line-2
-    slice-aggregate-write-all-2
-    write-all-requires-2
+    same-length
     returns
-    slice-aggregate-write-rows
-    write-rows-requires
-    returns-2
-    end-line-requires
-    array-share-prefix-line-3
-    slice-aggregate-write-all-3
-    write-all-requires-3
-    returns-3
-    returns-4)
+    loop-less
+    loop-again
+    same-length-2
+    returns-2)
