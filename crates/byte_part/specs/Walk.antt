@@ -47,7 +47,7 @@ pub record Measures (s : List ℕ) (col : Column) (shape : Shape) (at : ℕ) (m 
 
 -- those of a varint
 pub record Spells (s : List ℕ) (at : ℕ) (m : Measured) : Type 0 where
-  pub bytes : m .bytes ≡ spelledIn at (readVarint s at)
+  pub bytes : m .bytes ≡ spelledIn (readVarint s at)
   pub value : m .value ≡ numberIn (readVarint s at)
 
 -- the part of a name at a place, and the place behind it; no name: no part is left

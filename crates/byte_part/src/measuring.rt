@@ -48,7 +48,7 @@ fn spelling(bytes: &[u8], at: usize) -> Measured
 {
     match vint::read(bytes, at) {
         VintRead::Value(field) => Measured {
-            bytes: field.next - at,
+            bytes: field.used,
             value: field.value,
         },
         VintRead::Refused(_) => Measured { bytes: 0, value: 0 },

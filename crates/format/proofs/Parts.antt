@@ -75,10 +75,10 @@ module _ (s : List ℕ) (col : Column) where
   part-to n at next long late fit = omega arith
 
   -- so does a varint that was read
-  varint-to : (n : PartName) (at : ℕ) (f : Field) → extent s col (shapeOf n) at ≡ spelledIn at (readVarint s at) → readVarint s at ≡ value f → partEnd (partHere s col n at) ≡ f .next
+  varint-to : (n : PartName) (at : ℕ) (f : Field) → extent s col (shapeOf n) at ≡ spelledIn (readVarint s at) → readVarint s at ≡ value f → partEnd (partHere s col n at) ≡ f .next
   varint-to n at f long e =
       let r = varint-read s at f e in
-      part-to n at (f .next) (long ∙ ap (spelledIn at) e) (omega (arith, r .some)) (r .within)
+      part-to n at (f .next) (long ∙ ap spelledIn e ∙ omega (arith, r .used)) (omega (arith, r .some)) (r .within)
 
   -- ---- finding the part of an offset
 
@@ -166,8 +166,8 @@ head-end s col h e =
     (end-none s col (r .next) ∙ next)))))
 
 -- a line and its width that were read, under three names
-module _ (s : List ℕ) (col : Column) (a b w : PartName) (long-a : (at : ℕ) → extent s col (shapeOf a) at ≡ spelledIn at (readVarint s at))
-    (long-b : (at : ℕ) → extent s col (shapeOf b) at ≡ spelledIn at (readVarint s at)) (long-w : (at : ℕ) → extent s col (shapeOf w) at ≡ 1) where
+module _ (s : List ℕ) (col : Column) (a b w : PartName) (long-a : (at : ℕ) → extent s col (shapeOf a) at ≡ spelledIn (readVarint s at))
+    (long-b : (at : ℕ) → extent s col (shapeOf b) at ≡ spelledIn (readVarint s at)) (long-w : (at : ℕ) → extent s col (shapeOf w) at ≡ 1) where
   fields-end : (n at : ℕ) (f : Fields) → n ≤ length s → readFields (take n s) at ≡ value f → (end : ℕ) (ns : List PartName) → endFrom s col (f .next) ns ≡ end
       → endFrom s col at (a ∷ b ∷ w ∷ ns) ≡ end
   unfolding readFields

@@ -71,10 +71,10 @@ shapeOf (BlockWidth k) = Byte
 shapeOf Spare = SpareBytes
 shapeOf FooterLength = Four
 
--- the bytes of a varint that was read at an offset
-abbrev pub spelledIn : (at : ℕ) → Outcome Field → ℕ
-spelledIn at (value f) = f .next - at
-spelledIn at (refusal number also) = 0
+-- the bytes of a varint that was read
+abbrev pub spelledIn : Outcome Field → ℕ
+spelledIn (value f) = f .used
+spelledIn (refusal number also) = 0
 
 -- and its number
 abbrev pub numberIn : Outcome Field → ℕ
@@ -97,7 +97,7 @@ behindEnd Blockwise s = footerAt s
 
 -- a part's bytes, by where it begins
 unfoldable pub extent : (s : List ℕ) → Column → Shape → (at : ℕ) → ℕ
-extent s col Varint at = spelledIn at (readVarint s at)
+extent s col Varint at = spelledIn (readVarint s at)
 extent s col Byte at = 1
 extent s col Four at = 4
 extent s col AreaBytes at = col .size

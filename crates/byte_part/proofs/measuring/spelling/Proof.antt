@@ -1,10 +1,8 @@
--- `byte_part::measuring::spelling` meets its contract: a varint that was read ends behind its offset; one that was not has no bytes.
+-- `byte_part::measuring::spelling` meets its contract: a varint that was read has the bytes that it took; one that was not has none.
 -- Assumes nothing.
 use mathlib.Core.Path.{sym, ap}
-use native.Mathlib.Omega.{arith}
 use Rattle.format.specs.Parts.{spelledIn, numberIn}
 use Rattle.format.proofs.Outcomes.{told}
-use Rattle.format.proofs.Varints.{varint-read}
 use Rattle.vint.specs.Meaning.{vintMeaning}
 use borrow.Author.Needs.{needs}
 use Rattle.byte_part.proofs.measuring.spelling.Statement.{statement}
@@ -16,28 +14,21 @@ read-requires c κs = search needs
 enum-known-field : tie.Need-enum-known-field
 enum-known-field c = search needs
 
-sub-t6 : tie.Need-sub-t6
-sub-t6 c =
-    let r = c .before .before .before .before in
-    omega (arith, varint-read _ _ _ (told vintMeaning (r .read .ensures) (c .before .before .field .given .1)) .some)
-
 enum-told : tie.Need-enum-told
 enum-told c = search needs
 
 returns : tie.Need-returns
 returns c =
-    let r = c .before .before .before .before in
-    let at = r .before .before .args .at in
-    let e = told vintMeaning (r .read .ensures) (c .before .before .field .given .1) in
-    record { bytes = sym (ap (spelledIn at) e); value = sym (ap numberIn e) }
+    let r = c .before .before .before in
+    let e = told vintMeaning (r .read .ensures) (c .before .field .given .1) in
+    record { bytes = sym (ap spelledIn e); value = sym (ap numberIn e) }
 
 returns-2 : tie.Need-returns-2
 returns-2 c =
     let r = c .before .before in
-    let at = r .before .before .args .at in
     let e = told vintMeaning (r .read .ensures) (c .enum-told .given .1) in
-    record { bytes = sym (ap (spelledIn at) e); value = sym (ap numberIn e) }
+    record { bytes = sym (ap spelledIn e); value = sym (ap numberIn e) }
 
 pub spelling-spec : {M : Type 1} → statement M
 spelling-spec =
-    tie.close (tie.spec read-requires enum-known-field sub-t6 enum-told returns returns-2)
+    tie.close (tie.spec read-requires enum-known-field enum-told returns returns-2)
