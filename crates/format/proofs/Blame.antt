@@ -1,6 +1,6 @@
 -- A differing byte names its rows: what changes where two byte strings with the same fields differ.
 --     byte-bits                   a byte that agrees has bits that agree
---     blame                       a row that no differing byte names answers the same; one whose bits differ answers otherwise, unless both answers are 14
+--     blame-alike, blame          a row that no differing byte names answers the same; one whose bits differ answers otherwise, unless both answers are 14
 --     blame-one, blame-none       one byte that differs names every row whose bits differ; bytes behind the area change no answer
 -- Assumes nothing.
 use Prim.Native.Nat.{ℕ, _+_, _*_, _/_, _%_, _≤_, _<_}
@@ -10,6 +10,7 @@ use mathlib.Core.List.{List}
 use native.Mathlib.Omega.{arith}
 use lib.ListN.{length, drop, getD}
 use lib.Seq.{getD-take, getD-drop}
+use Rattle.format.specs.declared.Block.{Block}
 use Rattle.format.specs.declared.Owners.{Owners}
 use Rattle.format.specs.declared.Owners.the-variants.{Rows, NoRow}
 use Rattle.format.specs.Outcome.{Outcome.value}
@@ -18,11 +19,11 @@ use Rattle.format.specs.Opening.{Loaded, opened}
 use Rattle.format.specs.Windows.{whole, inWindow}
 use Rattle.format.specs.Parts.{ownersAt}
 use Rattle.format.specs.Demands.{Owns, SameBits, Differ, answered}
-use Rattle.format.specs.Blame.{Named, Untouched, Blame, BlameOne, BlameNone}
+use Rattle.format.specs.Blame.{Named, Untouched, Blames, Blame, BlameOne, BlameNone}
 use Rattle.format.proofs.Lists.{below-or}
 use Rattle.format.proofs.Bits.{rowsBits-at}
 use Rattle.format.proofs.Laid.{opened-whole}
-use Rattle.format.proofs.Elsewhere.{opened-same}
+use Rattle.format.proofs.Elsewhere.{FieldsAlike, opened-same, same-alike}
 use Rattle.format.proofs.Owning.{all-owned}
 use Rattle.format.proofs.Demand3.{rows-inside, rows-told}
 
@@ -58,8 +59,9 @@ module _ (s t : List ℕ) (room : ℕ) (o : Loaded) (e : opened s room ≡ value
 
 -- ---- what changes
 
-pub blame : Blame
-blame s t table other o p so tp f =
+pub blame-alike : (s t : List ℕ) (table other : List Block) (o p : Loaded) → opened s (length table) ≡ value o → opened t (length other) ≡ value p → FieldsAlike s t o
+    → Blames s t table other o p
+blame-alike s t table other o p so tp f =
     let told = rows-told s t table other o p so tp (f .long) (opened-same s t (length table) (length other) o p so tp f) in
     -- both are seen whole
     let here : (r : ℕ) → r ≡ 0 + r = (λ (r : ℕ). omega arith) in
@@ -79,6 +81,9 @@ blame s t table other o p so tp f =
           (subst (λ (q : Loaded). Differ r (answered (inWindow o (whole o)) table s r) (answered q other t r)) right
           (told .differ (whole o) (omega arith) r h (λ same. bits (subst (SameBits o s t) (sym (here r)) same))));
     }
+
+pub blame : Blame
+blame s t table other o p so tp f = blame-alike s t table other o p so tp (same-alike f)
 
 -- a row is named or not
 named-or : (a : Owners) (r : ℕ) → Named a r ⊎ (Named a r → ⊥)

@@ -17,7 +17,7 @@ use Rattle.format.specs.Windows.{inWindow}
 use Rattle.format.specs.Demands.{Owns, Inside, Apart, SameBits, answered, LiesIn, Differ, RowsTell, Tell, Demand3}
 use Rattle.format.proofs.Lists.{below-or}
 use Rattle.format.proofs.Laid.{opened-laid, laid-in}
-use Rattle.format.proofs.Elsewhere.{opened-same, alike-fields}
+use Rattle.format.proofs.Elsewhere.{opened-same, same-alike, alike-fields}
 use Rattle.format.proofs.Rows.{valueOf, answer-is, packed-same, bits-same, packed-small, value-tells}
 
 -- ---- where rows' bits lie
@@ -88,7 +88,7 @@ rows-told s t table other o p so tp long same =
 pub rows-tell : Tell
 rows-tell s t table other o p so tp a =
     rows-told s t table other o p so tp (a .long)
-    (opened-same s t (length table) (length other) o p so tp (alike-fields s t (length table) o so a))
+    (opened-same s t (length table) (length other) o p so tp (same-alike (alike-fields s t (length table) o so a)))
 
 pub demand3 : Demand3
 demand3 = (rows-inside, rows-apart, rows-tell)

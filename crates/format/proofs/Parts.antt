@@ -2,6 +2,7 @@
 --     endFrom, consecutive, end-append, end-late      where parts of some names end
 --     part-skip, part-found                           finding the part of an offset
 --     varint-whole                                    a varint that was read in the first bytes of some is read in all of them
+--     blocks-alike                                    blocks read alike where their fields agree, whatever is left over behind them
 --     Marks, opened-marks                             where the parts of a column that opens end
 --     all-parted
 -- Assumes nothing.
@@ -14,7 +15,7 @@ use mathlib.Core.List.{List, [], _∷_, _++_}
 use native.Mathlib.Omega.{arith}
 use lib.Dec.{ltb, leb}
 use lib.ListN.{length, take, drop, length-take, take-append-drop}
-use lib.Seq.{drop-append-le, take-length}
+use lib.Seq.{getD-take, drop-append-le, take-length}
 use borrow.Author.Tests.{lt-ltb, le-ltb, le-leb, lt-leb}
 use Rattle.format.specs.declared.Column.{Column}
 use Rattle.format.specs.declared.Field.{Field}
@@ -33,7 +34,7 @@ use Rattle.format.specs.Parts.{headNames, namesBefore, blockNames, names
 use Rattle.format.specs.Blame.{Consecutive, holding, AllParted}
 use Rattle.format.proofs.Lists.{below-or}
 use Rattle.format.proofs.Outcomes.{not-value, value-same, by-step, by-demand}
-use Rattle.format.proofs.Varints.{varint-read, not-found}
+use Rattle.format.proofs.Varints.{Agree, varint-read, not-found}
 use Rattle.format.proofs.LineFields.{width-read, fields-read}
 use Rattle.format.proofs.Openings.{OpensBitpacked, OpensLinear, OpensBlockwise, bitpackedOf, linearOf, blockwiseOf, footerStart, by-opening}
 
@@ -196,6 +197,31 @@ blocks-end (suc k) s col b at start rows t four late e =
     (length s - 4) at f (omega arith) at-f (length s) (blockNames (suc b) k ++ (Spare ∷ FooterLength ∷ []))
     (blocks-end k s col (suc b) (f .next) (start + bytesFor (f .bits * min rows 512)) (rows - 512) u four
     (omega (arith, fields-read (take (length s - 4) s) at f at-f .within, length-take (length s - 4) s)) at-u)
+
+-- blocks that were read there are read of other bytes too, where those of their fields agree
+pub blocks-alike : (k : ℕ) (s t : List ℕ) (col : Column) (b at start rows : ℕ) (u : Table) → length s ≡ length t
+    → readBlocks k (take (length s - 4) s) at start rows ≡ value u → Agree s t at (endFrom s col at (blockNames b k))
+    → readBlocks k (take (length s - 4) t) at start rows ≡ value u
+unfolding readBlocks blockNames extent
+blocks-alike zero s t col b at start rows u len e same = e
+blocks-alike (suc k) s t col b at start rows u len e same =
+    let n = length s - 4 in
+    by-step (readFields (take n s) at) _ e λ f at-f e.
+    by-step (readBlocks k (take n s) (f .next) (start + bytesFor (f .bits * min rows 512)) (rows - 512)) _ e λ v at-v e.
+    let r = fields-read (take n s) at f at-f in
+    let end : endFrom s col at (BlockSlope b ∷ BlockIntercept b ∷ BlockWidth b ∷ blockNames (suc b) k) ≡ endFrom s col (f .next) (blockNames (suc b) k) =
+    fields-end s col (BlockSlope b) (BlockIntercept b) (BlockWidth b) (λ (i : ℕ). refl) (λ (i : ℕ). refl) (λ (i : ℕ). refl) n at f (omega arith) at-f _ (blockNames (suc b) k) refl in
+    let later : f .next ≤ endFrom s col (f .next) (blockNames (suc b) k) = end-late s col (f .next) (blockNames (suc b) k) in
+    let long : length (take n s) ≡ length (take n t) = length-take n s ∙ ap (λ (m : ℕ). min n m) len ∙ sym (length-take n t) in
+    let here : Agree (take n s) (take n t) at (f .next) =
+    λ (i : ℕ) (low : at ≤ i) (high : i < f .next).
+    let short : i < n = omega (arith, r .within, length-take n s) in
+    getD-take n s i 0 short ∙ same i low (omega (arith, end, later)) ∙ sym (getD-take n t i 0 short) in
+    let f-there : readFields (take n t) at ≡ value f = r .elsewhere (take n t) long here in
+    let v-there : readBlocks k (take n t) (f .next) (start + bytesFor (f .bits * min rows 512)) (rows - 512) ≡ value v =
+    blocks-alike k s t col (suc b) (f .next) (start + bytesFor (f .bits * min rows 512)) (rows - 512) v len at-v
+    (λ (i : ℕ) (low : f .next ≤ i) (high : i < endFrom s col (f .next) (blockNames (suc b) k)). same i (omega (arith, r .some)) (omega (arith, end))) in
+    rw (f-there, v-there) e
 
 -- where the area begins and ends, where the bytes behind it end, and that the footer ends with the last byte
 pub record Marks (s : List ℕ) (col : Column) : Type 0 where

@@ -1,6 +1,6 @@
 -- What a block table that was read says: legal widths, and each block's bytes from the end of the one before.
 --     rowsIn, endAt                                     the rows of a block, and the byte behind its last
---     EntryRead, BlocksRead, blocks-read                a block's fields; each block starts where the one before ends; other footers with the same bytes read alike
+--     EntryRead, BlocksRead, blocks-read                a block's fields; each block starts where the one before ends
 --     blocks-lawful, blocks-order, blocks-inside        legal widths, and where blocks lie
 --     widthsBefore, blocks-start                        a block starts at the sum of 64 · width over the blocks before it
 -- Assumes nothing.
@@ -22,7 +22,6 @@ use Rattle.format.specs.Opening.{Table, blockBefore, readFields, readBlo
 use Rattle.format.specs.Reading.{blockAt}
 use Rattle.format.proofs.Lists.{below-or}
 use Rattle.format.proofs.Outcomes.{value-same, by-step}
-use Rattle.format.proofs.Varints.{Agree}
 use Rattle.format.proofs.LineFields.{FieldsRead, fields-read}
 
 -- ---- the rows and bytes of block b
@@ -60,11 +59,9 @@ pub record BlocksRead (k : ℕ) (s : List ℕ) (at start rows : ℕ) (t : Table)
   pub first : 0 < k → blockAt (t .blocks) 0 .start ≡ start
   pub next : (b : ℕ) → suc b < k → blockAt (t .blocks) (suc b) .start ≡ endAt rows (t .blocks) b
   pub last : (b : ℕ) → suc b ≡ k → endAt rows (t .blocks) b ≡ t .area
-  pub elsewhere : (u : List ℕ) → length s ≡ length u → Agree s u at (length s) → readBlocks k u at start rows ≡ value t
 
 -- no blocks
 blocks-none : (s : List ℕ) (at start rows : ℕ) → BlocksRead 0 s at start rows (record { blocks = []; area = start; spelling = Shortest })
-unfolding readBlocks
 blocks-none s at start rows = record {
   long = refl;
   entry = λ (b : ℕ) (h : b < 0). absurd (omega arith);
@@ -72,7 +69,6 @@ blocks-none s at start rows = record {
   first = λ (h : 0 < 0). absurd (omega arith);
   next = λ (b : ℕ) (h : suc b < 0). absurd (omega arith);
   last = λ (b : ℕ) (e : suc b ≡ 0). absurd (omega arith);
-  elsewhere = λ (u : List ℕ) (len : length s ≡ length u) (same : Agree s u at (length s)). refl;
 }
 
 -- a block before others
@@ -106,7 +102,6 @@ module _ (k : ℕ) (s : List ℕ) (at start rows : ℕ) (f : Fields) (t : Table)
   more-last (suc b) e = end-later f start t b rows ∙ rest .last b (omega arith)
 
   blocks-more : BlocksRead (suc k) s at start rows (blockBefore f start t)
-  unfolding readBlocks
   blocks-more = record {
     long = omega (arith, rest .long);
     entry = more-entry;
@@ -114,12 +109,6 @@ module _ (k : ℕ) (s : List ℕ) (at start rows : ℕ) (f : Fields) (t : Table)
     first = λ (h : 0 < suc k). refl;
     next = more-next;
     last = more-last;
-    elsewhere = λ (u : List ℕ) (len : length s ≡ length u) (same : Agree s u at (length s)).
-        let f-there : readFields u at ≡ value f =
-        here .elsewhere u len (λ (i : ℕ) (low : at ≤ i) (high : i < f .next). same i low (omega (arith, here .within))) in
-        let t-there : readBlocks k u (f .next) (start + bytesFor (f .bits * min rows 512)) (rows - 512) ≡ value t =
-        rest .elsewhere u len (λ (i : ℕ) (low : f .next ≤ i) (high : i < length s). same i (omega (arith, here .some)) high) in
-        rw (f-there, t-there);
   }
 
 -- a table that was read has these facts

@@ -1,7 +1,7 @@
--- What a blame lists meets the hypotheses of the theorem on differing bytes (format/proofs/Blame): where it begins with two columns, these have the same fields, but for bytes left over in a footer.
+-- What a blame lists meets the hypotheses of the theorem on differing bytes (format/proofs/Blame): where it begins with two columns, these have the same fields.
 --     no-field                      where no field is told, a byte that differs is no field's
---     before-part, footer-part      a byte before the area is a field's; one from the footer on is a field's or left over
---     SpareAlike, same-fields       so the two columns have the same fields, if the bytes left over in the footer agree
+--     before-part, footer-part      a byte before the area is a field's; so is one of the footer, but for those left over
+--     same-fields                   so the two columns have the same fields
 --     Listed, listed-blames         and every row of theirs answers as the theorem says, with any tables that have a program's room
 -- Assumes nothing.
 use Prim.Native.Nat.{ℕ, zero, suc, _+_, _≤_, _<_}
@@ -9,7 +9,7 @@ use mathlib.Core.Path.{_≡_, refl, sym, ap, _∙_, subst}
 use mathlib.Core.Bool.{Bool, true, false}
 use mathlib.Core.Logic.{_⊎_, inl, inr, ⊎-elim}
 use mathlib.Core.Option.{some}
-use mathlib.Core.List.{List, [], _∷_, _++_, append-nil}
+use mathlib.Core.List.{List, [], _∷_, _++_}
 use native.Mathlib.Nat.{eq-or-lt-of-le}
 use native.Mathlib.Omega.{arith}
 use lib.Dec.{eqb}
@@ -27,11 +27,12 @@ use Rattle.format.specs.Bodies.{blockCount}
 use Rattle.format.specs.Opening.{Loaded, opened}
 use Rattle.format.specs.Listing.{openedHere}
 use Rattle.format.specs.Parts.{namesBefore, blockNames, namesFooter, shapeOf, behindEnd, extent, partHere, partEnd, partsFrom, partIn, partAt}
-use Rattle.format.specs.Blame.{SameFields, Blames}
+use Rattle.format.specs.Blame.{Blames}
 use Rattle.format.proofs.Lists.{below-or}
 use Rattle.format.proofs.Openings.{opened-roomier}
 use Rattle.format.proofs.Parts.{endFrom, part-skip, Marks, opened-marks}
-use Rattle.format.proofs.Blame.{blame}
+use Rattle.format.proofs.Blame.{blame-alike}
+use Rattle.format.proofs.Elsewhere.{FieldsAlike}
 use Rattle.byte_part.specs.Bytes.{partOf}
 use Rattle.text_column.proofs.Limits.{here-opened}
 use Rattle.text_blame_bytes.specs.declared.fields.Field.{Field}
@@ -85,23 +86,15 @@ All Q (n ∷ ns) = Q n × All Q ns
 abbrev pub IsField : PartName → Type 0
 IsField n = isField (shapeOf n) ≡ true
 
-abbrev pub FieldOrSpare : PartName → Type 0
-FieldOrSpare n = IsField n ⊎ (n ≡ Spare)
-
 before-all : (c : Codec) → All IsField (namesBefore c)
 before-all Bitpacked = (refl, (refl, (refl, (refl, (refl, tt)))))
 before-all (Linear l w) = (refl, (refl, (refl, (refl, (refl, (refl, (refl, (refl, tt))))))))
 before-all Blockwise = (refl, (refl, (refl, (refl, (refl, tt)))))
 
-blocks-all : (k n : ℕ) → All FieldOrSpare (blockNames k n ++ (Spare ∷ FooterLength ∷ []))
+blocks-all : (k n : ℕ) → All IsField (blockNames k n)
 unfolding blockNames
-blocks-all k zero = (inr refl, (inl refl, tt))
-blocks-all k (suc n) = (inl refl, (inl refl, (inl refl, blocks-all (suc k) n)))
-
-footer-all : (c : Codec) (rows : ℕ) → All FieldOrSpare (namesFooter c rows)
-footer-all Bitpacked rows = tt
-footer-all (Linear l w) rows = tt
-footer-all Blockwise rows = blocks-all 0 (blockCount rows)
+blocks-all k zero = tt
+blocks-all k (suc n) = (refl, (refl, (refl, blocks-all (suc k) n)))
 
 -- ---- the part of a byte
 
@@ -129,16 +122,49 @@ module _ (s : List ℕ) (col : Column) where
     unfolding endFrom extent
     area-behind = omega (arith, m .area, m .behind)
 
-    pub footer-part : (i : ℕ) → behindEnd (col .codec) s ≤ i → i < length s → (p : Part) × (partAt s col i ≡ some p) × FieldOrSpare (p .name)
-    footer-part i low high =
-        let past : partAt s col i ≡ partIn (partsFrom s col (col .start) (Area ∷ Behind ∷ footer)) i =
+    -- from the footer on the parts before it are passed over
+    from-footer : (i : ℕ) → behindEnd (col .codec) s ≤ i → partAt s col i ≡ partIn (partsFrom s col (behindEnd (col .codec) s) footer) i
+    from-footer i low =
         part-skip s col 0 (namesBefore (col .codec)) (Area ∷ Behind ∷ footer) i (omega (arith, m .before, m .area))
-        ∙ ap (λ (k : ℕ). partIn (partsFrom s col k (Area ∷ Behind ∷ footer)) i) (m .before) in
-        let behind : partIn (partsFrom s col (col .start) (Area ∷ Behind ∷ footer)) i ≡ partIn (partsFrom s col (behindEnd (col .codec) s) footer) i =
-        part-skip s col (col .start) (Area ∷ Behind ∷ []) footer i (omega (arith, area-behind))
-        ∙ ap (λ (k : ℕ). partIn (partsFrom s col k footer) i) area-behind in
-        let q = found-named FieldOrSpare (behindEnd (col .codec) s) footer [] i (footer-all (col .codec) (col .rows)) low (omega (arith, m .footer)) in
-        (q .0, past ∙ behind ∙ ap (λ (ns : List PartName). partIn (partsFrom s col (behindEnd (col .codec) s) ns) i) (sym (append-nil footer)) ∙ q .1, q .2)
+        ∙ ap (λ (k : ℕ). partIn (partsFrom s col k (Area ∷ Behind ∷ footer)) i) (m .before)
+        ∙ part-skip s col (col .start) (Area ∷ Behind ∷ []) footer i (omega (arith, area-behind))
+        ∙ ap (λ (k : ℕ). partIn (partsFrom s col k footer) i) area-behind
+
+    -- the blocks' fields, and where they end
+    abbrev blocks : List PartName
+    blocks = blockNames 0 (blockCount (col .rows))
+
+    abbrev fieldsEnd : ℕ
+    fieldsEnd = endFrom s col (behindEnd (col .codec) s) blocks
+
+    -- what is left over ends before the footer's length, and that with the last byte
+    last-four : (at i : ℕ) → at ≤ i → length s - 4 ≤ i → i < length s → (p : Part) × (partIn (partsFrom s col at (Spare ∷ FooterLength ∷ [])) i ≡ some p) × IsField (p .name)
+    unfolding endFrom extent
+    last-four at i low late high =
+        let past = endFrom s col at (Spare ∷ []) in
+        let q = found-named IsField past (FooterLength ∷ []) [] i (refl, tt) (omega arith) (omega arith) in
+        (q .0, part-skip s col at (Spare ∷ []) (FooterLength ∷ []) i (omega arith) ∙ q .1, q .2)
+
+    pub footer-part : (i : ℕ) → behindEnd (col .codec) s ≤ i → i < length s → (i < fieldsEnd) ⊎ (length s - 4 ≤ i)
+        → (p : Part) × (partAt s col i ≡ some p) × IsField (p .name)
+    footer-part i low high where-is = go (col .codec) refl
+      where
+        go : (c : Codec) → col .codec ≡ c → (p : Part) × (partAt s col i ≡ some p) × IsField (p .name)
+        go Bitpacked e = absurd (omega (arith, rw e at low))
+        go (Linear l w) e = absurd (omega (arith, rw e at low))
+        go Blockwise e =
+            let at = behindEnd (col .codec) s in
+            let here : partAt s col i ≡ partIn (partsFrom s col at (blocks ++ (Spare ∷ FooterLength ∷ []))) i =
+            from-footer i low ∙ ap (λ (c : Codec). partIn (partsFrom s col at (namesFooter c (col .rows))) i) e in
+            let behind : fieldsEnd ≤ i → length s - 4 ≤ i → (p : Part) × (partAt s col i ≡ some p) × IsField (p .name) =
+            λ (past : fieldsEnd ≤ i) (late : length s - 4 ≤ i).
+            let q = last-four fieldsEnd i past late high in
+            (q .0, here ∙ part-skip s col at blocks (Spare ∷ FooterLength ∷ []) i past ∙ q .1, q .2) in
+            let within : i < fieldsEnd → (p : Part) × (partAt s col i ≡ some p) × IsField (p .name) =
+            λ (inside : i < fieldsEnd).
+            let q = found-named IsField at blocks (Spare ∷ FooterLength ∷ []) i (blocks-all 0 (blockCount (col .rows))) low inside in
+            (q .0, here ∙ q .1, q .2) in
+            ⊎-elim within (λ (late : length s - 4 ≤ i). ⊎-elim within (λ (past : fieldsEnd ≤ i). behind past late) (below-or i fieldsEnd)) where-is
 
     -- what is found for a byte is what is told
     told : (i : ℕ) (p : Part) → i < length s → partAt s col i ≡ some p → partOf s col i ≡ value p
@@ -147,22 +173,12 @@ module _ (s : List ℕ) (col : Column) where
 
 -- ---- the same fields
 
--- bytes left over in a footer agree
-abbrev pub SpareAlike : (s t : List ℕ) → Column → Type 0
-SpareAlike s t col = (i : ℕ) (p : Part) → partAt s col i ≡ some p → p .name ≡ Spare → getD s i 0 ≡ getD t i 0
-
-pub same-fields : (s t : List ℕ) (room : ℕ) (o : Loaded) → opened s room ≡ value o → length s ≡ length t → firstField (partOf s (o .column)) s t 0 (length s) ≡ Nothing
-    → SpareAlike s t (o .column) → SameFields s t o
-same-fields s t room o e long none spare = record {
+pub same-fields : (s t : List ℕ) (room : ℕ) (o : Loaded) → opened s room ≡ value o → length s ≡ length t → firstField (partOf s (o .column)) s t 0 (length s) ≡ Nothing → FieldsAlike s t o
+same-fields s t room o e long none = record {
   long = long;
   before = λ i h. let q = before-part s (o .column) m i h in by-field i (q .0) (omega (arith, m .area, m .behind)) (q .1) (q .2);
-  footer = λ i h.
-      ⊎-elim
-      (λ (inside : i < length s).
-      let q = footer-part s (o .column) m i h inside in
-      ⊎-elim (λ (field : IsField (q .0 .name)). by-field i (q .0) inside (q .1) field) (λ (left : q .0 .name ≡ Spare). spare i (q .0) (q .1) left) (q .2))
-      (λ (past : length s ≤ i). List·getD-eq-default s 0 past ∙ sym (List·getD-eq-default t 0 (omega (arith, long, past))))
-      (below-or i (length s));
+  blocks = λ i low high. in-footer i low (inl high);
+  four = λ i low late. in-footer i low (inr late);
 }
   where
     m : Marks s (o .column)
@@ -170,6 +186,13 @@ same-fields s t room o e long none spare = record {
 
     by-field : (i : ℕ) (p : Part) → i < length s → partAt s (o .column) i ≡ some p → IsField (p .name) → getD s i 0 ≡ getD t i 0
     by-field i p h is field = no-field (partOf s (o .column)) s t 0 (length s) none i (omega arith) (omega arith) p (told s (o .column) m i p h is) field
+
+    in-footer : (i : ℕ) → behindEnd (o .column .codec) s ≤ i → (i < fieldsEnd s (o .column) m) ⊎ (length s - 4 ≤ i) → getD s i 0 ≡ getD t i 0
+    in-footer i low where-is =
+        ⊎-elim
+        (λ (inside : i < length s). let q = footer-part s (o .column) m i low inside where-is in by-field i (q .0) inside (q .1) (q .2))
+        (λ (past : length s ≤ i). List·getD-eq-default s 0 past ∙ sym (List·getD-eq-default t 0 (omega (arith, long, past))))
+        (below-or i (length s))
 
 -- ---- what a blame begins with
 
@@ -179,7 +202,7 @@ pub record Listed (s t : List ℕ) (c d : Column) (table other : List Block) : T
   pub right : Loaded
   pub left-is : left .column ≡ c
   pub right-is : right .column ≡ d
-  pub fields : SameFields s t left
+  pub fields : FieldsAlike s t left
   pub blames : Blames s t table other left right
 
 both-test : (u w c d : Column) (b : Bool) (field : Field) (l : List ℕ) → pick b (startsWith u w field) (only l) ≡ both c d → (b ≡ true) × (field ≡ Nothing) × (u ≡ c) × (w ≡ d)
@@ -187,9 +210,9 @@ both-test u w c d true Nothing l e = (refl, refl, (cc), (cc))
 both-test u w c d true (At i name) l e = absurd (let z : _≡_ {A = ℕ} 0 1 = cc in omega arith)
 both-test u w c d false field l e = absurd (let z : _≡_ {A = ℕ} 0 1 = cc in omega arith)
 
-pub listed-blames : (s t : List ℕ) (c d : Column) → starts (openedHere s) (openedHere t) s t ≡ both c d → SpareAlike s t c
+pub listed-blames : (s t : List ℕ) (c d : Column) → starts (openedHere s) (openedHere t) s t ≡ both c d
     → (table other : List Block) → 2048 ≤ length table → 2048 ≤ length other → Listed s t c d table other
-listed-blames s t c d e spare table other enough enough-too = go (openedHere s) (openedHere t) refl refl e
+listed-blames s t c d e table other enough enough-too = go (openedHere s) (openedHere t) refl refl e
   where
     go : (x y : Outcome Loaded) → openedHere s ≡ x → openedHere t ≡ y → starts x y s t ≡ both c d → Listed s t c d table other
     go (refusal number also) y is is-too e = absurd (let z : _≡_ {A = ℕ} 0 1 = cc in omega arith)
@@ -198,5 +221,5 @@ listed-blames s t c d e spare table other enough enough-too = go (openedHere s) 
         let q = both-test (o .column) (p .column) c d (eqb (length s) (length t)) (firstField (partOf s (o .column)) s t 0 (length s)) (lengthsLine (length s) (length t)) e in
         let so = opened-roomier s 2048 (length table) enough o (here-opened s o is) in
         let tp = opened-roomier t 2048 (length other) enough-too p (here-opened t p is-too) in
-        let fields = same-fields s t (length table) o so (eqb-true (length s) (length t) (q .0)) (q .1) (subst (SpareAlike s t) (sym (q .2)) spare) in
-        record { left = o; right = p; left-is = q .2; right-is = q .3; fields = fields; blames = blame s t table other o p so tp fields }
+        let fields = same-fields s t (length table) o so (eqb-true (length s) (length t) (q .0)) (q .1) in
+        record { left = o; right = p; left-is = q .2; right-is = q .3; fields = fields; blames = blame-alike s t table other o p so tp fields }
