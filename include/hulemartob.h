@@ -313,6 +313,26 @@ HULEMARTOB_NUMBERS(hulemartob_part, 5);
 void hulemartob_part_at(const hulemartob_column *column, const uint8_t *bytes, size_t bytes_len, size_t offset, hulemartob_part *part,
                         hulemartob_error *error);
 
+/* A place between parts: how many come before it, and the offset behind them. 0 and 0 is the first. */
+typedef struct hulemartob_cursor {
+    uint64_t number;
+    uint64_t offset;
+} hulemartob_cursor;
+HULEMARTOB_NUMBERS(hulemartob_cursor, 2);
+
+/* Lists the parts from the place of `cursor` on, those without bytes too, as many as there is room for: each is five numbers of `numbers`, a hulemartob_part, and
+ * the cursor's place is now behind the last. The rest of `numbers` is unchanged. Returns how many parts these are, 0 on refusal; where there was room for more,
+ * there are no more. A column's parts are so listed in one walk, by one call or by several:
+ *
+ *     hulemartob_part parts[64];
+ *     hulemartob_cursor cursor = {0, 0};
+ *     while ((count = hulemartob_parts(&column, bytes, length, &cursor, &parts[0].name, 5 * 64, &error))) ..
+ *
+ * A cursor that no call left may be handed over: then the parts are those that would stand there. Refused 13 where the numbers are no column, or its area leaves
+ * the bytes. A refusal leaves cursor and numbers as they were. */
+size_t hulemartob_parts(const hulemartob_column *column, const uint8_t *bytes, size_t bytes_len, hulemartob_cursor *cursor, uint64_t *numbers,
+                        size_t numbers_len, hulemartob_error *error);
+
 /* Rows from `first` to below `end`. */
 typedef struct hulemartob_rows {
     uint64_t first;

@@ -382,6 +382,31 @@ static void parts(void) {
     EXPECT(refused(13, 0) && memcmp(&part, &all[1], sizeof part) == 0);
     hulemartob_part_at(&none, three, sizeof three, 0, &part, &error);
     EXPECT(refused(13, 0) && memcmp(&part, &all[1], sizeof part) == 0);
+    /* All of them in one walk, in stretches of any length, empty ones too: two of twelve. */
+    for (size_t room = 1; room <= 13; room++) {
+        hulemartob_part listed[13];
+        hulemartob_cursor cursor = {0, 0};
+        size_t seen = 0, kept = 0, count;
+        while ((count = hulemartob_parts(&column, three, sizeof three, &cursor, &listed[0].name, 5 * room, &error)) != 0) {
+            EXPECT(refused(0, 0) && count <= room);
+            seen += count;
+            for (size_t i = 0; i < count; i++)
+                if (listed[i].length != 0) {
+                    EXPECT(kept < sizeof all / sizeof *all && memcmp(&listed[i], &all[kept], sizeof part) == 0);
+                    kept++;
+                }
+            EXPECT(cursor.number == seen && cursor.offset == listed[count - 1].offset + listed[count - 1].length);
+        }
+        EXPECT(refused(0, 0) && seen == 12 && kept == sizeof all / sizeof *all && cursor.offset == sizeof three);
+    }
+    uint64_t five[7] = {7, 7, 7, 7, 7, 7, 7};
+    hulemartob_cursor behind = {1, 1};
+    EXPECT(hulemartob_parts(&column, three, sizeof three, &behind, five, 7, &error) == 1 && refused(0, 0));
+    EXPECT(five[0] == HULEMARTOB_PART_MINIMUM && five[4] == 10 && five[5] == 7 && five[6] == 7 && behind.number == 2 && behind.offset == 2);
+    EXPECT(hulemartob_parts(&column, three, sizeof three, &behind, five, 4, &error) == 0 && refused(0, 0) && behind.number == 2);
+    EXPECT(hulemartob_parts(&none, three, sizeof three, &behind, five, 7, &error) == 0 && refused(13, 0));
+    EXPECT(hulemartob_parts(&column, three, 5, &behind, five, 7, &error) == 0 && refused(13, 0));
+    EXPECT(five[0] == HULEMARTOB_PART_MINIMUM && five[4] == 10 && behind.number == 2 && behind.offset == 2);
     /* Linear's own parts, bytes behind the area, and bytes left over in a footer. */
     const uint8_t linear[] = {0x01, 0x85, 0x82, 0x81, 0x82, 0x80, 0x85, 0x00, 0xEE};
     hulemartob_open(linear, sizeof linear, NULL, 0, &column, &error);

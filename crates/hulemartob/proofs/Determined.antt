@@ -8,6 +8,7 @@
 --     judges-determined       hulemartob_check
 --     reports-determined      hulemartob_replay
 --     tells-determined        hulemartob_part_at, _rows_at, _difference
+-- That of hulemartob_parts is `walks-determined` of `c_parts`.
 -- The others, which read a stored number and make a range, promise equations.
 -- Assumes nothing.
 use Prim.Native.Nat.{ℕ}

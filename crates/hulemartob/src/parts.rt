@@ -1,5 +1,7 @@
-// What a byte is, and the rows that it names.
+// What each byte is, and the rows that it names.
+ghost use lib.ListN.{length};
 ghost use Rattle.c_numbers.specs.Explaining.{Tells};
+ghost use Rattle.c_parts.specs.Listed.{Walks, listedFrom};
 ghost use Rattle.hulemartob.specs.Calls.{partFrom, rowsFrom};
 use byte_part::PartRead;
 use byte_part::naming::block_of;
@@ -48,6 +50,20 @@ pub extern "C" fn hulemartob_part_at(
             *refusal = told(q);
         }
     }
+}
+
+// The parts from the place of a cursor on, five numbers each, as many as the list has room for; the cursor's place is then behind them. Returns how many there are, 0 on refusal.
+#[no_mangle]
+pub extern "C" fn hulemartob_parts(
+    column: &[u64; 12],
+    bytes: &[u8],
+    cursor: &mut [u64; 2],
+    list: &mut [u64],
+    refusal: &mut [u64; 2],
+) -> usize
+    ensures { λ r. ⌜ Walks (listedFrom (now (column .entry)) (now (bytes .entry)) (now (cursor .entry)) (length (now (list .entry)))) r (now (refusal .exit)) (now (cursor .entry)) (now (cursor .exit)) (now (list .entry)) (now (list .exit)) ⌝ }
+{
+    c_parts::list_parts(column, bytes, cursor, list, refusal)
 }
 
 // The rows that own a bit of the byte at an offset.
