@@ -345,6 +345,22 @@ HULEMARTOB_NUMBERS(hulemartob_rows, 2);
 void hulemartob_rows_at(const hulemartob_column *column, const hulemartob_block *table, size_t table_len, const uint8_t *bytes, size_t bytes_len,
                         size_t offset, hulemartob_rows *rows, hulemartob_error *error);
 
+/* ---- where opening stops */
+
+/* A refusal of opening, by its place: the part that was being read, and the offset where that begins. */
+typedef struct hulemartob_place {
+    uint64_t number; /* enum hulemartob_refusal, 5 to 10; 0 where the bytes open, and then all are 0 */
+    uint64_t name;   /* enum hulemartob_part_name */
+    uint64_t block;  /* the number of its block, 0 where it is no block's */
+    uint64_t offset;
+} hulemartob_place;
+HULEMARTOB_NUMBERS(hulemartob_place, 4);
+
+/* `place` is now where hulemartob_open stops in these bytes, given a table for all blocks: the number is its refusal's, and the offset the one that 6 and 9 return.
+ * 5 is the code byte's, 7 the gcd's, 8 the count's or the rows', 10 the packed area's or, where it is missing or too great, the footer length's; one that is
+ * missing would begin behind the head. Never refused. The byte of 17 is in the part that hulemartob_part_at tells, since the bytes then open under sheet 1. */
+void hulemartob_stop(const uint8_t *bytes, size_t bytes_len, hulemartob_place *place);
+
 /* ---- columns of signed numbers, dates, bools and floats
  *
  * The bytes are the same; a kind says how a stored number reads, and the bytes do not tell it.

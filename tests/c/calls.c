@@ -421,6 +421,39 @@ static void parts(void) {
     EXPECT(refused(0, 0) && part.name == HULEMARTOB_PART_SPARE && part.offset == 5 && part.length == 1);
 }
 
+/* Where opening stops: every way to cut, and to change a byte of, two columns; opening's own refusal and offset are met. */
+static void stops(void) {
+    const uint8_t linear[] = {0x01, 0x85, 0x82, 0x81, 0x82, 0x80, 0x85, 0x00};
+    const uint8_t *columns[] = {three, linear, packed};
+    const size_t lengths[] = {sizeof three, sizeof linear, sizeof packed};
+    size_t met[11] = {0};
+    for (size_t k = 0; k < 3; k++)
+        for (size_t length = 0; length <= lengths[k]; length++)
+            for (size_t at = 0; at <= length; at++)
+                for (unsigned byte = 0; byte < (at == length ? 1u : 256u); byte++) {
+                    uint8_t bytes[sizeof three];
+                    memcpy(bytes, columns[k], length);
+                    if (at < length) bytes[at] = (uint8_t)byte;
+                    hulemartob_column column;
+                    block table[256];
+                    hulemartob_place place = {7, 7, 7, 7};
+                    hulemartob_stop(bytes, length, &place);
+                    hulemartob_open(bytes, length, table, 256, &column, &error);
+                    if (error.number == HULEMARTOB_REFUSAL_TABLE_SHORT) continue;
+                    EXPECT(place.number == error.number && place.number <= 10 && place.offset <= length);
+                    if (error.number == HULEMARTOB_REFUSAL_BAD_FIELD || error.number == HULEMARTOB_REFUSAL_ILLEGAL_WIDTH) EXPECT(place.offset == error.value);
+                    if (place.number <= 10) met[place.number]++;
+                }
+    for (size_t number = 5; number <= 10; number++) EXPECT(met[number] != 0);
+    hulemartob_place place = {7, 7, 7, 7};
+    hulemartob_stop(three, sizeof three, &place);
+    EXPECT(place.number == 0 && place.name == 0 && place.block == 0 && place.offset == 0);
+    hulemartob_stop(three, 12, &place);
+    EXPECT(place.number == 10 && place.name == HULEMARTOB_PART_FOOTER_LENGTH && place.block == 0 && place.offset == 8);
+    hulemartob_stop(NULL, 0, &place);
+    EXPECT(place.number == 5 && place.name == HULEMARTOB_PART_CODE && place.offset == 0);
+}
+
 /* The verdict on 10, 30, 20. */
 static hulemartob_verdict judged(const uint8_t *column, size_t length) {
     hulemartob_verdict verdict = {7, 7, 7};
@@ -512,6 +545,7 @@ int main(void) {
     windows();
     replays();
     parts();
+    stops();
     verdicts();
     differences();
     lists_by_kind();

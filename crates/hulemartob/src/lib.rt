@@ -8,6 +8,7 @@ mod checks;
 mod differs;
 mod parts;
 mod replays;
+mod stops;
 mod typed;
 
 ghost use lib.ListN.{length};

@@ -47,6 +47,8 @@ unsafe extern "C" {
     fn hulemartob_rows_at(column: &Numbers, table: *const Block, table_len: usize, bytes: *const u8, bytes_len: usize,
         offset: usize, rows: &mut [u64; 2], refusal: &mut Refusal);
 
+    fn hulemartob_stop(bytes: *const u8, bytes_len: usize, place: &mut [u64; 4]);
+
     fn hulemartob_check(kind: u32, sheet: u32, bytes: *const u8, bytes_len: usize, values: *const u64, values_len: usize,
         table: *mut Block, table_len: usize, verdict: &mut [u64; 3], refusal: &mut Refusal);
 
@@ -117,6 +119,14 @@ pub fn open(sheet: u32, bytes: &[u8], table: &mut [Block]) -> Result<(Numbers, O
     // SAFETY: lent.
     let longer = unsafe { hulemartob_open_under(sheet, bytes.as_ptr(), bytes.len(), records, room, &mut numbers, &mut refusal) };
     answer(refusal, (numbers, (longer != u64::MAX).then_some(longer as usize)))
+}
+
+/// The four numbers of where opening stops: the refusal's, the part, its block, its offset; zeros where it does not.
+pub(crate) fn stop(bytes: &[u8]) -> [u64; 4] {
+    let mut place = [0; 4];
+    // SAFETY: lent.
+    unsafe { hulemartob_stop(bytes.as_ptr(), bytes.len(), &mut place) };
+    place
 }
 
 /// The three numbers of the verdict on a column. No kind that there is makes the call refuse.
