@@ -313,6 +313,26 @@ HULEMARTOB_NUMBERS(hulemartob_part, 5);
 void hulemartob_part_at(const hulemartob_column *column, const uint8_t *bytes, size_t bytes_len, size_t offset, hulemartob_part *part,
                         hulemartob_error *error);
 
+/* A place between parts: how many come before it, and the offset behind them. 0 and 0 is the first. */
+typedef struct hulemartob_cursor {
+    uint64_t number;
+    uint64_t offset;
+} hulemartob_cursor;
+HULEMARTOB_NUMBERS(hulemartob_cursor, 2);
+
+/* Lists the parts from the place of `cursor` on, those without bytes too, as many as there is room for: each is five numbers of `numbers`, a hulemartob_part, and
+ * the cursor's place is now behind the last. The rest of `numbers` is unchanged. Returns how many parts these are, 0 on refusal; where there was room for more,
+ * there are no more. A column's parts are so listed in one walk, by one call or by several:
+ *
+ *     hulemartob_part parts[64];
+ *     hulemartob_cursor cursor = {0, 0};
+ *     while ((count = hulemartob_parts(&column, bytes, length, &cursor, &parts[0].name, 5 * 64, &error))) ..
+ *
+ * A cursor that no call left may be handed over: then the parts are those that would stand there. Refused 13 where the numbers are no column, or its area leaves
+ * the bytes. A refusal leaves cursor and numbers as they were. */
+size_t hulemartob_parts(const hulemartob_column *column, const uint8_t *bytes, size_t bytes_len, hulemartob_cursor *cursor, uint64_t *numbers,
+                        size_t numbers_len, hulemartob_error *error);
+
 /* Rows from `first` to below `end`. */
 typedef struct hulemartob_rows {
     uint64_t first;
@@ -324,6 +344,22 @@ HULEMARTOB_NUMBERS(hulemartob_rows, 2);
  * hulemartob_part_at. A refusal leaves `rows` as it was. */
 void hulemartob_rows_at(const hulemartob_column *column, const hulemartob_block *table, size_t table_len, const uint8_t *bytes, size_t bytes_len,
                         size_t offset, hulemartob_rows *rows, hulemartob_error *error);
+
+/* ---- where opening stops */
+
+/* A refusal of opening, by its place: the part that was being read, and the offset where that begins. */
+typedef struct hulemartob_place {
+    uint64_t number; /* enum hulemartob_refusal, 5 to 10; 0 where the bytes open, and then all are 0 */
+    uint64_t name;   /* enum hulemartob_part_name */
+    uint64_t block;  /* the number of its block, 0 where it is no block's */
+    uint64_t offset;
+} hulemartob_place;
+HULEMARTOB_NUMBERS(hulemartob_place, 4);
+
+/* `place` is now where hulemartob_open stops in these bytes, given a table for all blocks: the number is its refusal's, and the offset the one that 6 and 9 return.
+ * 5 is the code byte's, 7 the gcd's, 8 the count's or the rows', 10 the packed area's or, where it is missing or too great, the footer length's; one that is
+ * missing would begin behind the head. Never refused. The byte of 17 is in the part that hulemartob_part_at tells, since the bytes then open under sheet 1. */
+void hulemartob_stop(const uint8_t *bytes, size_t bytes_len, hulemartob_place *place);
 
 /* ---- columns of signed numbers, dates, bools and floats
  *

@@ -404,6 +404,31 @@ static void parts(void) {
     EXPECT(refused(13, 0) && memcmp(&part, &all[1], sizeof part) == 0);
     hulemartob_part_at(&none, three, sizeof three, 0, &part, &error);
     EXPECT(refused(13, 0) && memcmp(&part, &all[1], sizeof part) == 0);
+    /* All of them in one walk, in stretches of any length, empty ones too: two of twelve. */
+    for (size_t room = 1; room <= 13; room++) {
+        hulemartob_part listed[13];
+        hulemartob_cursor cursor = {0, 0};
+        size_t seen = 0, kept = 0, count;
+        while ((count = hulemartob_parts(&column, three, sizeof three, &cursor, &listed[0].name, 5 * room, &error)) != 0) {
+            EXPECT(refused(0, 0) && count <= room);
+            seen += count;
+            for (size_t i = 0; i < count; i++)
+                if (listed[i].length != 0) {
+                    EXPECT(kept < sizeof all / sizeof *all && memcmp(&listed[i], &all[kept], sizeof part) == 0);
+                    kept++;
+                }
+            EXPECT(cursor.number == seen && cursor.offset == listed[count - 1].offset + listed[count - 1].length);
+        }
+        EXPECT(refused(0, 0) && seen == 12 && kept == sizeof all / sizeof *all && cursor.offset == sizeof three);
+    }
+    uint64_t five[7] = {7, 7, 7, 7, 7, 7, 7};
+    hulemartob_cursor behind = {1, 1};
+    EXPECT(hulemartob_parts(&column, three, sizeof three, &behind, five, 7, &error) == 1 && refused(0, 0));
+    EXPECT(five[0] == HULEMARTOB_PART_MINIMUM && five[4] == 10 && five[5] == 7 && five[6] == 7 && behind.number == 2 && behind.offset == 2);
+    EXPECT(hulemartob_parts(&column, three, sizeof three, &behind, five, 4, &error) == 0 && refused(0, 0) && behind.number == 2);
+    EXPECT(hulemartob_parts(&none, three, sizeof three, &behind, five, 7, &error) == 0 && refused(13, 0));
+    EXPECT(hulemartob_parts(&column, three, 5, &behind, five, 7, &error) == 0 && refused(13, 0));
+    EXPECT(five[0] == HULEMARTOB_PART_MINIMUM && five[4] == 10 && behind.number == 2 && behind.offset == 2);
     /* Linear's own parts, bytes behind the area, and bytes left over in a footer. */
     const uint8_t linear[] = {0x01, 0x85, 0x82, 0x81, 0x82, 0x80, 0x85, 0x00, 0xEE};
     hulemartob_open(linear, sizeof linear, NULL, 0, &column, &error);
@@ -416,6 +441,39 @@ static void parts(void) {
     hulemartob_open(spare, sizeof spare, NULL, 0, &column, &error);
     hulemartob_part_at(&column, spare, sizeof spare, 5, &part, &error);
     EXPECT(refused(0, 0) && part.name == HULEMARTOB_PART_SPARE && part.offset == 5 && part.length == 1);
+}
+
+/* Where opening stops: every way to cut, and to change a byte of, two columns; opening's own refusal and offset are met. */
+static void stops(void) {
+    const uint8_t linear[] = {0x01, 0x85, 0x82, 0x81, 0x82, 0x80, 0x85, 0x00};
+    const uint8_t *columns[] = {three, linear, packed};
+    const size_t lengths[] = {sizeof three, sizeof linear, sizeof packed};
+    size_t met[11] = {0};
+    for (size_t k = 0; k < 3; k++)
+        for (size_t length = 0; length <= lengths[k]; length++)
+            for (size_t at = 0; at <= length; at++)
+                for (unsigned byte = 0; byte < (at == length ? 1u : 256u); byte++) {
+                    uint8_t bytes[sizeof three];
+                    memcpy(bytes, columns[k], length);
+                    if (at < length) bytes[at] = (uint8_t)byte;
+                    hulemartob_column column;
+                    block table[256];
+                    hulemartob_place place = {7, 7, 7, 7};
+                    hulemartob_stop(bytes, length, &place);
+                    hulemartob_open(bytes, length, table, 256, &column, &error);
+                    if (error.number == HULEMARTOB_REFUSAL_TABLE_SHORT) continue;
+                    EXPECT(place.number == error.number && place.number <= 10 && place.offset <= length);
+                    if (error.number == HULEMARTOB_REFUSAL_BAD_FIELD || error.number == HULEMARTOB_REFUSAL_ILLEGAL_WIDTH) EXPECT(place.offset == error.value);
+                    if (place.number <= 10) met[place.number]++;
+                }
+    for (size_t number = 5; number <= 10; number++) EXPECT(met[number] != 0);
+    hulemartob_place place = {7, 7, 7, 7};
+    hulemartob_stop(three, sizeof three, &place);
+    EXPECT(place.number == 0 && place.name == 0 && place.block == 0 && place.offset == 0);
+    hulemartob_stop(three, 12, &place);
+    EXPECT(place.number == 10 && place.name == HULEMARTOB_PART_FOOTER_LENGTH && place.block == 0 && place.offset == 8);
+    hulemartob_stop(NULL, 0, &place);
+    EXPECT(place.number == 5 && place.name == HULEMARTOB_PART_CODE && place.offset == 0);
 }
 
 /* The verdict on 10, 30, 20. */
@@ -509,6 +567,7 @@ int main(void) {
     windows();
     replays();
     parts();
+    stops();
     verdicts();
     differences();
     lists_by_kind();

@@ -26,6 +26,7 @@ pub mod Tables
 pub mod Openings
 pub mod Laid
 pub mod Parts
+pub mod Stops
 pub mod Elsewhere
 pub mod Rows
 pub mod Windows
@@ -74,6 +75,7 @@ pub mod LongCases
 pub mod Cases
 pub mod TypedCases
 pub mod PartCases
+pub mod StopCases
 pub mod ViewCases
 pub mod ReplayCases
 pub mod CheckCases

@@ -357,6 +357,13 @@ pub struct Part {
     pub value: u64,
 }
 
+// Where opening stops: the number of its refusal, the part that was being read, and the offset where that begins.
+pub struct Stop {
+    pub number: u8,
+    pub name: PartName,
+    pub first: usize,
+}
+
 // The rows that own a bit of a byte: all from the first to the last, or none.
 pub enum Owners {
     Rows { first: u32, last: u32 },

@@ -2,7 +2,7 @@
 --     column-stats-determined, column-stats-as-determined, serialize-determined, serialize-as-determined
 --     open-determined, open-under-determined, narrow-determined
 --     row-determined, lookup-determined, run-determined, replay-determined, check-determined, difference-determined
---     part-at-determined, rows-at-determined
+--     part-at-determined, parts-determined, stop-determined, rows-at-determined
 --     values-as-determined, i64-of-determined, bool-of-determined, f64-bits-of-determined, i64-range-determined, bool-range-determined, f64-range-determined
 -- Assumes nothing.
 use Prim.Native.Nat.{ℕ}
@@ -25,10 +25,12 @@ use Rattle.c_numbers.specs.Explaining.{Tells}
 use Rattle.c_numbers.specs.Numbers.{Answers, Describes, Narrows, States}
 use Rattle.c_tableless.specs.Calls.{narrowedFrom, statedFrom, writtenFrom}
 use Rattle.c_answers.specs.Replaying.{Reports}
+use Rattle.c_parts.specs.Listed.{listedFrom}
+use Rattle.c_parts.proofs.Determined.{walks-determined}
 use Rattle.hulemartob.specs.Calls.{rowFrom, foundFrom, runFrom, replayedFrom, partFrom, rowsFrom, checkedFrom, Lists, Loads}
 use Rattle.hulemartob.specs.Differing.{differenceFrom}
 use Rattle.hulemartob.specs.Exports.{ColumnStatsPromise, ColumnStatsAsPromise, SerializePromise, SerializeAsPromise, OpenPromise, OpenUnderPromise, NarrowPromise, RowPromise, LookupPromise, RunPromise, ReplayPromise, CheckPromise, DifferencePromise}
-use Rattle.hulemartob.specs.Exports.{PartAtPromise, RowsAtPromise, ValuesAsPromise, I64OfPromise, BoolOfPromise, F64BitsOfPromise, I64RangePromise, BoolRangePromise, F64RangePromise}
+use Rattle.hulemartob.specs.Exports.{PartAtPromise, PartsPromise, StopPromise, RowsAtPromise, ValuesAsPromise, I64OfPromise, BoolOfPromise, F64BitsOfPromise, I64RangePromise, BoolRangePromise, F64RangePromise}
 
 -- ---- over any outcome
 
@@ -135,6 +137,14 @@ difference-determined left ltable lbytes right rtable rbytes from = tells-determ
 pub part-at-determined : (column bytes : List ℕ) (offset : ℕ) (part refusal refusal′ after after′ : List ℕ)
     → PartAtPromise column bytes offset refusal part after → PartAtPromise column bytes offset refusal′ part after′ → (refusal ≡ refusal′) × (after ≡ after′)
 part-at-determined column bytes offset = tells-determined (partFrom column bytes offset)
+
+pub parts-determined : (column bytes cursor list : List ℕ) (r r′ : ℕ) (refusal refusal′ place place′ after after′ : List ℕ)
+    → PartsPromise column bytes r refusal cursor place list after → PartsPromise column bytes r′ refusal′ cursor place′ list after′
+    → (r ≡ r′) × (refusal ≡ refusal′) × (place ≡ place′) × (after ≡ after′)
+parts-determined column bytes cursor list = walks-determined (listedFrom column bytes cursor (length list)) cursor list
+
+pub stop-determined : (bytes after after′ : List ℕ) → StopPromise bytes after → StopPromise bytes after′ → after ≡ after′
+stop-determined bytes after after′ p q = p ∙ sym q
 
 pub rows-at-determined : (column : List ℕ) (table : List Block) (bytes : List ℕ) (offset : ℕ) (rows refusal refusal′ after after′ : List ℕ)
     → RowsAtPromise column table bytes offset refusal rows after → RowsAtPromise column table bytes offset refusal′ rows after′ → (refusal ≡ refusal′) × (after ≡ after′)

@@ -10,12 +10,15 @@ use Rattle.format.specs.declared.Block.{Block}
 use Rattle.format.specs.Opening.{opened}
 use Rattle.format.specs.Sheets.{openedUnder}
 use Rattle.format.specs.Stats.{stated}
+use Rattle.format.specs.Stops.{stopOf}
 use Rattle.format.specs.Typed.{signedOf, flagOf, floatOf, signedRange, flagRange, floatRange}
 use Rattle.format.specs.Writing.{written}
 use Rattle.c_numbers.specs.Explaining.{Tells}
 use Rattle.c_numbers.specs.Numbers.{filled, Answers, Narrows, States}
 use Rattle.c_tableless.specs.Calls.{narrowedFrom, statedFrom, writtenFrom}
 use Rattle.c_answers.specs.Replaying.{Reports}
+use Rattle.c_parts.specs.Listed.{listedFrom, Walks}
+use Rattle.open_stops.specs.Numbers.{stopNumbers}
 use Rattle.hulemartob.specs.Calls.{rangeNumbers, wordsFrom, rowFrom, foundFrom, runFrom, replayedFrom, partFrom, rowsFrom, Lists, Loads, Judges}
 use Rattle.hulemartob.specs.Differing.{differenceFrom}
 
@@ -83,6 +86,14 @@ DifferencePromise left ltable lbytes right rtable rbytes from refusal difference
 -- `hulemartob_part_at`
 abbrev pub PartAtPromise : (column bytes : List ℕ) (offset : ℕ) (refusal part part′ : List ℕ) → Type 0
 PartAtPromise column bytes offset refusal part part′ = Tells (partFrom column bytes offset) refusal part part′
+
+-- `hulemartob_parts`
+abbrev pub PartsPromise : (column bytes : List ℕ) (r : ℕ) (refusal cursor cursor′ list list′ : List ℕ) → Type 0
+PartsPromise column bytes r refusal cursor cursor′ list list′ = Walks (listedFrom column bytes cursor (length list)) r refusal cursor cursor′ list list′
+
+-- `hulemartob_stop`
+abbrev pub StopPromise : (bytes stop′ : List ℕ) → Type 0
+StopPromise bytes stop′ = stop′ ≡ stopNumbers (stopOf bytes)
 
 -- `hulemartob_rows_at`
 abbrev pub RowsAtPromise : (column : List ℕ) (table : List Block) (bytes : List ℕ) (offset : ℕ) (refusal rows rows′ : List ℕ) → Type 0

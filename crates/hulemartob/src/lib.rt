@@ -8,6 +8,7 @@ mod checks;
 mod differs;
 mod parts;
 mod replays;
+mod stops;
 mod typed;
 
 ghost use Rattle.hulemartob.specs.Exports.{ColumnStatsPromise, SerializePromise, OpenPromise, OpenUnderPromise, NarrowPromise, RowPromise, LookupPromise, RunPromise};

@@ -1,5 +1,5 @@
-// What a byte is, and the rows that it names.
-ghost use Rattle.hulemartob.specs.Exports.{PartAtPromise, RowsAtPromise};
+// What each byte is, and the rows that it names.
+ghost use Rattle.hulemartob.specs.Exports.{PartAtPromise, PartsPromise, RowsAtPromise};
 use byte_part::PartRead;
 use byte_part::naming::block_of;
 use byte_part::naming::which_part;
@@ -47,6 +47,20 @@ pub extern "C" fn hulemartob_part_at(
             *refusal = told(q);
         }
     }
+}
+
+// The parts from the place of a cursor on, five numbers each, as many as the list has room for; the cursor's place is then behind them. Returns how many there are, 0 on refusal.
+#[no_mangle]
+pub extern "C" fn hulemartob_parts(
+    column: &[u64; 12],
+    bytes: &[u8],
+    cursor: &mut [u64; 2],
+    list: &mut [u64],
+    refusal: &mut [u64; 2],
+) -> usize
+    ensures { λ r. ⌜ PartsPromise (now (column .entry)) (now (bytes .entry)) r (now (refusal .exit)) (now (cursor .entry)) (now (cursor .exit)) (now (list .entry)) (now (list .exit)) ⌝ }
+{
+    c_parts::list_parts(column, bytes, cursor, list, refusal)
 }
 
 // The rows that own a bit of the byte at an offset.

@@ -1,19 +1,18 @@
 //! One command for everyday work on columns: judging whole folders without golden files, listing, explaining, comparing, writing.
 //!
-//! Every answer about a column is the library's, which is proved. What is decided here is what is said of it, and in which words. The modules below
-//! [`unproved`] are the exception: they read bytes of the format themselves, for what the library has no call yet. They only add to what is shown.
+//! Every answer about a column is the library's, which is proved. What is decided here is what is said of it, and in which words.
 
 mod bless;
 mod cli;
 mod commands;
 mod console;
 mod dates;
+mod layout;
 mod page;
 mod place;
 mod refusals;
 mod scalar;
 mod sources;
-mod unproved;
 mod values;
 
 use std::process::ExitCode;

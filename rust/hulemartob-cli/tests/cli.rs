@@ -137,10 +137,10 @@ fn refusals_are_one_line_with_the_place() {
     for (name, number, place) in [
         ("none", 5, "code at byte 0: there are no bytes"),
         ("code", 5, "code at byte 0: 7 is no codec"),
-        ("cut", 6, "minimum at byte 1: cut off"),
+        ("cut", 6, "minimum at byte 1: cut off, or 2^64 or more"),
         ("gcd", 7, "gcd at byte 2: 0"),
         ("range", 8, "count at byte 3: minimum + gcd * count is 2^64 or more"),
-        ("short", 10, "area at byte 5: needs 14 bytes, 1 are left"),
+        ("short", 10, "area at byte 5: does not fit into the bytes"),
     ] {
         let told = format!("hulemartob: {name}: refused {number}: {place}\n");
         for command in ["list", "explain"] {

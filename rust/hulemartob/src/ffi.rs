@@ -10,7 +10,7 @@ use std::mem::ManuallyDrop;
 use std::ops::Range;
 use std::slice;
 
-use crate::raw::{Block, Numbers, View};
+use crate::raw::{Block, Cursor, Numbers, View};
 use crate::{Date, Difference, Error, Kind, Part, Replay, Stats};
 
 /// A refusal's number, 0 for none, and the value that it also returns.
@@ -42,8 +42,12 @@ unsafe extern "C" {
         right: &Numbers, rtable: *const Block, rtable_len: usize, rbytes: *const u8, rbytes_len: usize,
         from: u32, differing: &mut [u64; 7], refusal: &mut Refusal);
     fn hulemartob_part_at(column: &Numbers, bytes: *const u8, bytes_len: usize, offset: usize, part: &mut [u64; 5], refusal: &mut Refusal);
+    fn hulemartob_parts(column: &Numbers, bytes: *const u8, bytes_len: usize, cursor: &mut Cursor, numbers: *mut u64, numbers_len: usize,
+        refusal: &mut Refusal) -> usize;
     fn hulemartob_rows_at(column: &Numbers, table: *const Block, table_len: usize, bytes: *const u8, bytes_len: usize,
         offset: usize, rows: &mut [u64; 2], refusal: &mut Refusal);
+
+    fn hulemartob_stop(bytes: *const u8, bytes_len: usize, place: &mut [u64; 4]);
 
     fn hulemartob_check(kind: u32, sheet: u32, bytes: *const u8, bytes_len: usize, values: *const u64, values_len: usize,
         table: *mut Block, table_len: usize, verdict: &mut [u64; 3], refusal: &mut Refusal);
@@ -115,6 +119,14 @@ pub fn open(sheet: u32, bytes: &[u8], table: &mut [Block]) -> Result<(Numbers, O
     // SAFETY: lent.
     let longer = unsafe { hulemartob_open_under(sheet, bytes.as_ptr(), bytes.len(), records, room, &mut numbers, &mut refusal) };
     answer(refusal, (numbers, (longer != u64::MAX).then_some(longer as usize)))
+}
+
+/// The four numbers of where opening stops: the refusal's, the part, its block, its offset; zeros where it does not.
+pub(crate) fn stop(bytes: &[u8]) -> [u64; 4] {
+    let mut place = [0; 4];
+    // SAFETY: lent.
+    unsafe { hulemartob_stop(bytes.as_ptr(), bytes.len(), &mut place) };
+    place
 }
 
 /// The three numbers of the verdict on a column. No kind that there is makes the call refuse.
@@ -210,6 +222,33 @@ impl View<'_> {
         // SAFETY: lent.
         unsafe { hulemartob_part_at(self.numbers, self.bytes.as_ptr(), self.bytes.len(), offset, &mut part, &mut refusal) };
         answer(refusal, part).map(Part::from_numbers)
+    }
+
+    /// Lists the parts from a place on, those without bytes too, as many as there is room for, five numbers each: which part ([`PartName`](crate::PartName)), its
+    /// block, its offset, its length, the number that it spells; what has no block or number has 0. The cursor's place is then behind them. Returns how many they
+    /// are; where there was room for more, there are no more.
+    ///
+    /// ```
+    /// use hulemartob::raw::Cursor;
+    /// use hulemartob::{Column, encode};
+    ///
+    /// let column = Column::open(encode(&[10u64, 30, 20])?)?;
+    /// let (mut parts, mut cursor) = ([[0; 5]; 4], Cursor::default());
+    /// assert_eq!(column.raw().parts(&mut cursor, &mut parts)?, 4);
+    /// assert_eq!(parts[1], [1, 0, 1, 1, 10]);
+    /// assert_eq!(column.raw().parts(&mut cursor, &mut parts)?, 3);
+    /// assert_eq!(cursor, Cursor { number: 7, offset: 6 });
+    /// # Ok::<(), hulemartob::Error>(())
+    /// ```
+    ///
+    /// # Errors
+    ///
+    /// 13 if the numbers are no column, or its area leaves the bytes.
+    pub fn parts(self, cursor: &mut Cursor, parts: &mut [[u64; 5]]) -> Result<usize, Error> {
+        let (numbers, room, mut refusal) = (parts.as_mut_ptr().cast(), 5 * parts.len(), [0; 2]);
+        // SAFETY: lent; an array of five numbers is these, one behind the other.
+        let listed = unsafe { hulemartob_parts(self.numbers, self.bytes.as_ptr(), self.bytes.len(), cursor, numbers, room, &mut refusal) };
+        answer(refusal, listed)
     }
 
     /// The rows that own a bit of the byte at an offset, of the whole column, whatever its window; `0..0` where none does.

@@ -27,7 +27,7 @@
 //! - Reading: [`Column`], whose bytes are borrowed or owned; its [windows](Column::window).
 //! - Where two columns differ: [`Column::differences`].
 //! - Columns from other writers: what is accepted ([`Sheet`]), and whether a column holds a list of values ([`check()`]).
-//! - What each byte of a column is, and whose: [`Column::parts`], [`Column::rows_of_byte`].
+//! - What each byte of a column is, and whose: [`Column::parts`], [`Column::rows_of_byte`]. Where opening refuses bytes: [`stop()`].
 //! - Lookups that are recorded and rerun: [`RecordingBuilder`], [`Column::replay`].
 //! - The names of tantivy-columnar over this library: [`compat`]. The library's calls as they are, for tools: [`raw`].
 //!
@@ -57,6 +57,7 @@ mod iter;
 mod parts;
 pub mod raw;
 mod replay;
+mod stop;
 mod value;
 mod write;
 
@@ -68,5 +69,6 @@ pub use error::{Error, Unknown};
 pub use iter::Iter;
 pub use parts::{Part, PartName, Parts};
 pub use replay::{Recorded, Recording, RecordingBuilder, Replay};
+pub use stop::{Stop, stop};
 pub use value::{Date, Kind, Value};
 pub use write::{Stats, encode, encode_into, encode_with, encoded_len, max_encoded_len, stats};

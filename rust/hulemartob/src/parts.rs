@@ -5,7 +5,7 @@ use std::iter::FusedIterator;
 use std::ops::Range;
 use std::str::FromStr;
 
-use crate::raw::View;
+use crate::raw::{Cursor, View};
 use crate::{Column, Error, Unknown, Value};
 
 /// Which part of a column. Displayed, it is the word by which the programs call it.
@@ -176,24 +176,42 @@ impl fmt::Display for Part {
     }
 }
 
+/// How many parts are asked for at a time.
+const STRETCH: usize = 64;
+
 /// The parts of a column in the order of their bytes: [`Column::parts`].
 #[derive(Clone, Debug)]
 #[must_use = "iterators do nothing unless they are used"]
 pub struct Parts<'a> {
     view: View<'a>,
-    next: usize,
+    cursor: Cursor,
+    listed: std::vec::IntoIter<Part>,
+    more: bool,
 }
 
 impl Iterator for Parts<'_> {
     type Item = Result<Part, Error>;
 
     fn next(&mut self) -> Option<Self::Item> {
-        if self.view.bytes.len() <= self.next {
-            return None;
+        loop {
+            if let Some(part) = self.listed.find(|part| part.len != 0) {
+                return Some(Ok(part));
+            }
+            if !self.more {
+                return None;
+            }
+            let mut stretch = [[0; 5]; STRETCH];
+            match self.view.parts(&mut self.cursor, &mut stretch) {
+                Ok(many) => {
+                    self.more = many == STRETCH;
+                    self.listed = stretch[..many].iter().map(|&numbers| Part::from_numbers(numbers)).collect::<Vec<_>>().into_iter();
+                }
+                Err(error) => {
+                    self.more = false;
+                    return Some(Err(error));
+                }
+            }
         }
-        let part = self.view.part_at(self.next);
-        self.next = part.as_ref().map_or(self.view.bytes.len(), |part| part.offset + part.len);
-        Some(part)
     }
 }
 
@@ -202,7 +220,7 @@ impl FusedIterator for Parts<'_> {}
 impl<T: Value, B: AsRef<[u8]>> Column<T, B> {
     /// All parts that have bytes, in their order, each byte of the column in just one. Of a column that was opened none is refused.
     ///
-    /// Each step goes over the footer from its start, so that the time for all grows with the square of a Blockwise column's blocks.
+    /// They come of one walk over the bytes, whose parts are proved to be the format's, none left out and none twice.
     ///
     /// ```
     /// use hulemartob::{Column, PartName, encode};
@@ -213,7 +231,7 @@ impl<T: Value, B: AsRef<[u8]>> Column<T, B> {
     /// # Ok::<(), hulemartob::Error>(())
     /// ```
     pub fn parts(&self) -> Parts<'_> {
-        Parts { view: self.raw(), next: 0 }
+        Parts { view: self.raw(), cursor: Cursor::default(), listed: Vec::new().into_iter(), more: true }
     }
 
     /// The part that holds the byte at an offset.

@@ -85,6 +85,16 @@ impl From<Numbers> for [u64; 12] {
     }
 }
 
+/// A place between the parts of a column: how many come before it, and the offset behind them. The default is the first place.
+#[repr(C)]
+#[derive(Clone, Copy, Debug, Default, PartialEq, Eq, Hash)]
+pub struct Cursor {
+    /// The number of the next part.
+    pub number: u64,
+    /// The offset where it begins.
+    pub offset: u64,
+}
+
 /// A column in its three parts. [`Column::raw`] gives those of an opened one. Rows count from the window's start.
 #[derive(Clone, Copy)]
 pub struct View<'a> {

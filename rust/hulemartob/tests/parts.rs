@@ -1,6 +1,6 @@
 //! What each byte is, and the rows that it names.
 
-use hulemartob::raw::Numbers;
+use hulemartob::raw::{Cursor, Numbers};
 use hulemartob::{Codec, Column, Error, Part, PartName, encode_with};
 
 /// Three rows, Blockwise.
@@ -52,6 +52,57 @@ fn parts_in_words() {
     let blocks = words(Codec::Blockwise);
     assert_eq!(blocks[6..9], ["block 0 slope", "block 0 intercept", "block 0 width"]);
     assert_eq!(blocks[12..], ["block 2 slope", "block 2 intercept", "block 2 width", "footer length"]);
+}
+
+/// A stretch of any length goes on where the one before ended; empty parts are listed too. What a refused call was lent is as it was.
+#[test]
+fn in_stretches() {
+    let values: Vec<u64> = (0..5000).map(|i| i * i % 9973).collect();
+    for codec in Codec::ALL {
+        let bytes = encode_with(&values, &[codec]).unwrap();
+        let column = Column::open(&bytes).unwrap();
+        let walk = |room: usize| {
+            let (mut cursor, mut all) = (Cursor::default(), Vec::new());
+            loop {
+                let mut stretch = vec![[7; 5]; room];
+                let many = column.raw().parts(&mut cursor, &mut stretch).unwrap();
+                assert!(stretch[many..].iter().all(|part| *part == [7; 5]));
+                all.extend_from_slice(&stretch[..many]);
+                assert_eq!(cursor.number, all.len() as u64);
+                if many < room {
+                    assert_eq!(cursor.offset, bytes.len() as u64);
+                    return all;
+                }
+            }
+        };
+        let whole = walk(100);
+        assert_eq!(whole.len(), [7, 10, 39][codec as usize]);
+        for room in [1, 2, 3, 7, 38, 39, 40] {
+            assert_eq!(walk(room), whole);
+        }
+        let some: Vec<Part> = column.parts().map(Result::unwrap).collect();
+        assert_eq!(some.len(), whole.iter().filter(|part| part[3] != 0).count());
+        for part in some {
+            assert_eq!(column.part_of_byte(part.offset).unwrap(), part);
+        }
+    }
+    let column = Column::open(&BLOCKWISE).unwrap();
+    let made = Numbers { area_start: 100, ..*column.raw().numbers };
+    let (mut cursor, mut stretch) = (Cursor { number: 3, offset: 3 }, [[7; 5]; 2]);
+    assert_eq!(Column::from_raw(&BLOCKWISE, made, []).unwrap().raw().parts(&mut cursor, &mut stretch), Err(Error::Unfit));
+    assert_eq!((cursor, stretch), (Cursor { number: 3, offset: 3 }, [[7; 5]; 2]));
+}
+
+/// A column of many blocks is listed in one walk.
+#[test]
+fn many_blocks() {
+    let values: Vec<u64> = (0..1_000_000).map(|i| i * 3 + i * i % 11).collect();
+    let bytes = encode_with(&values, &[Codec::Blockwise]).unwrap();
+    let column = Column::open(&bytes).unwrap();
+    let blocks = values.len().div_ceil(512);
+    let parts: Vec<Part> = column.parts().map(Result::unwrap).collect();
+    assert_eq!(parts.len(), 6 + 3 * blocks + 1);
+    assert_eq!(parts.iter().map(|part| part.len).sum::<usize>(), bytes.len());
 }
 
 #[test]

@@ -3,8 +3,8 @@
 use hulemartob::{Column, Part, PartName};
 
 use crate::console::many;
+use crate::layout::Layout;
 use crate::place::Place;
-use crate::unproved::layout::Layout;
 
 /// The first difference of a column from what the rules write for its rows. Fields come first, since bytes of the area follow from them; then the area's
 /// filling bits, and bytes of no part.

@@ -7,9 +7,9 @@ use hulemartob::PartName;
 
 use crate::cli;
 use crate::console::{Ink, Inked, Status, stdout};
+use crate::layout::Layout;
 use crate::page;
 use crate::sources;
-use crate::unproved::layout::Layout;
 
 pub fn run(args: &cli::Explain) -> Result<Status> {
     if let Some(path) = &args.html {

@@ -10,9 +10,9 @@ use serde_json::{Map, json};
 use super::Lent;
 use crate::cli;
 use crate::console::{Ink, Inked, Named, Status, complain, complain_of, stdout};
+use crate::layout::Layout;
 use crate::refusals::Told;
 use crate::sources;
-use crate::unproved::layout::Layout;
 
 /// A group of parts: its name, and which belong to it.
 type Group = (&'static str, fn(PartName) -> bool);

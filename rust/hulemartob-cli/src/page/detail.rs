@@ -6,7 +6,7 @@ use hulemartob::{Column, Part, PartName};
 use serde::Serialize;
 
 use crate::bless::{Judgement, Verdict, rewritten};
-use crate::unproved::layout::Layout;
+use crate::layout::Layout;
 
 /// So many rows are shown with their values.
 const VALUES: u32 = 4096;
@@ -88,7 +88,7 @@ impl Detail {
     pub fn new(bytes: &[u8], judgement: &Judgement, size: usize) -> Detail {
         let window = window(bytes.len(), judgement.offset, size);
         let opened = Column::open(bytes).ok();
-        let layout = opened.as_ref().map_or_else(|| Layout::sketch(bytes), Layout::of);
+        let layout = opened.as_ref().map(Layout::of).unwrap_or_default();
         let mut detail = Detail {
             length: bytes.len(),
             shown: Shown::new(bytes, &layout, window.clone()),
