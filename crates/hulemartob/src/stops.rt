@@ -6,5 +6,5 @@ ghost use Rattle.hulemartob.specs.Exports.{StopPromise};
 pub extern "C" fn hulemartob_stop(bytes: &[u8], stop: &mut [u64; 4])
     ensures { λ _. ⌜ StopPromise (now (bytes .entry)) (now (stop .exit)) ⌝ }
 {
-    *stop = open_stops::numbers::stop_numbers(bytes);
+    *stop = byte_stop::numbers::stop_numbers(bytes);
 }
