@@ -1,3 +1,4 @@
 pub mod Bytes
 pub mod Names
 pub mod Walk
+pub mod Calls

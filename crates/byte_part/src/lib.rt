@@ -5,8 +5,8 @@ pub mod naming;
 
 ghost use mathlib.Core.Path.{_≡_};
 ghost use Rattle.format.specs.Parts.{partAt};
-ghost use Rattle.byte_part.specs.Walk.{walked, sought};
-ghost use Rattle.byte_part.specs.Bytes.{fitsAt, partOf, partMeaning};
+ghost use Rattle.byte_part.specs.Walk.{sought};
+ghost use Rattle.byte_part.specs.Calls.{WalkedAs, FitsAs, PartAs};
 use format::Column;
 use format::Part;
 use format::Refusal;
@@ -38,7 +38,7 @@ pub enum PartRead {
 
 // The part at a place.
 pub fn next_part(column: Column, bytes: &[u8], place: Cursor) -> Walked
-    ensures { λ r. ⌜ r ≡ walked (now (bytes .entry)) column place ⌝ }
+    ensures { λ r. ⌜ WalkedAs column (now (bytes .entry)) place r ⌝ }
 {
     let codec = column.codec;
     match naming::name_at(codec, column.rows, place.number) {
@@ -76,7 +76,7 @@ fn seek(column: Column, bytes: &[u8], offset: usize) -> Sought
 
 // Whether column and bytes fit together at an offset: the area lies in the bytes, and so does the offset.
 pub fn fits_at(column: Column, bytes: &[u8], offset: usize) -> bool
-    ensures { λ r. ⌜ r ≡ fitsAt (now (bytes .entry)) column offset ⌝ }
+    ensures { λ r. ⌜ FitsAs column (now (bytes .entry)) offset r ⌝ }
 {
     if !word::ends_within(column.start, column.size, bytes.len()) {
         return false;
@@ -86,7 +86,7 @@ pub fn fits_at(column: Column, bytes: &[u8], offset: usize) -> bool
 
 // The part that holds the byte at an offset.
 pub fn part_at(column: Column, bytes: &[u8], offset: usize) -> PartRead
-    ensures { λ r. ⌜ partMeaning r ≡ partOf (now (bytes .entry)) column offset ⌝ }
+    ensures { λ r. ⌜ PartAs column (now (bytes .entry)) offset r ⌝ }
 {
     if !fits_at(column, bytes, offset) {
         return PartRead::Refused(Refusal::Unfit);

@@ -57,12 +57,16 @@ windowed = record { minimum = 10; gcd = 10; count = 2; rows = 3; start = 5; size
 abbrev pub through : List ℕ → Outcome Report
 through s = replayed (rowAt windowed [] (0 ∷ 138 ∷ 138 ∷ 130 ∷ 131 ∷ 24 ∷ [])) 2 s
 
--- through it the lookup 10 to 25 finds its row 1: recorded so; with the column's row; with an end that the column has and the window has not, for 30, its row 0; and a recording cut short
+-- through it the lookup 10 to 25 finds its row 1: recorded so; with the column's row; with an end that the column has and the window has not, for 30, its row 0; 20 to 30, with an end behind all rows, both
+-- rows; these by the column's numbers; and a recording cut short
 pub window-replays : map through (
     (header 1 16 1 48 ++ (item 10 25 0 9 0 1 ++ numBytes 4 1))
     ∷ (header 1 16 1 48 ++ (item 10 25 0 9 0 1 ++ numBytes 4 2))
     ∷ (header 1 16 1 48 ++ (item 30 30 0 3 0 1 ++ numBytes 4 0))
+    ∷ (header 1 16 2 48 ++ (item 20 30 0 9 0 2 ++ (numBytes 4 0 ++ numBytes 4 1)))
+    ∷ (header 1 16 2 48 ++ (item 20 30 0 9 0 2 ++ (numBytes 4 1 ++ numBytes 4 2)))
     ∷ zeros 15 ∷ [])
-    ≡ value (record { differing = none; run = 1 }) ∷ value (record { differing = some 0; run = 1 }) ∷ value (record { differing = none; run = 1 }) ∷ refusal 19 [] ∷ []
+    ≡ value (record { differing = none; run = 1 }) ∷ value (record { differing = some 0; run = 1 }) ∷ value (record { differing = none; run = 1 })
+    ∷ value (record { differing = none; run = 1 }) ∷ value (record { differing = some 0; run = 1 }) ∷ refusal 19 [] ∷ []
 unfolding zeros numBytes bytesNum numberAt headerOf recordAt listedAt listedFrom placed isRecording sameRows foundAre agrees firstDiffering allRead rowsPassing replayed rowIn placeIn fits columnFits rowFits packedOf valueIn unpack rowsBits bitsOf numOf width bitLength bitsIn
 window-replays = refl

@@ -1,10 +1,10 @@
 // Signed numbers, dates, bools and floats as stored numbers: one value of a lent list, a row's answer and a list read back, and the range of stored
 // numbers that a lookup by values goes by.
 ghost use mathlib.Core.Path.{_≡_};
-ghost use Rattle.format.specs.Refusals.{rowMeaning, signedMeaning, flagMeaning, floatMeaning};
-ghost use Rattle.format.specs.Typed.{storedSigned, signedOf, flagOf, storedFloat, floatOf, storedIn, readAs, signedRange, flagRange, floatRange};
-ghost use Rattle.monotonic_mapping.specs.Words.{wordOf, wordsAs};
+ghost use Rattle.format.specs.Typed.{storedSigned, storedFloat, flagRange};
+ghost use Rattle.monotonic_mapping.specs.Words.{wordOf};
 ghost use Rattle.monotonic_mapping.specs.Flips.{isNumber, isFlag, isFloat, flip, flipped, mostStored};
+ghost use Rattle.monotonic_mapping.specs.Calls.{StoredOfAs, SignedOfAs, FlagOfAs, FloatOfAs, WordsOfAs, SignedReadAs, FlagReadAs, FloatReadAs, SignedRangeAs, FlagRangeAs, FloatRangeAs};
 use format::FlagRead;
 use format::FloatRead;
 use format::Kind;
@@ -100,7 +100,7 @@ fn most_stored(kind: Kind) -> u64
 
 // The stored number of a value of a kind, lent as a word.
 pub fn stored_of(kind: Kind, x: u64) -> u64
-    ensures { λ r. ⌜ r ≡ storedIn kind x ⌝ }
+    ensures { λ r. ⌜ StoredOfAs kind x r ⌝ }
 {
     if is_number(kind) {
         return x;
@@ -113,7 +113,7 @@ pub fn stored_of(kind: Kind, x: u64) -> u64
 
 // A stored number as a signed one, in two steps that stay in the range of signed numbers.
 pub fn signed_of(stored: u64) -> i64
-    ensures { λ r. ⌜ r ≡ signedOf stored ⌝ }
+    ensures { λ r. ⌜ SignedOfAs stored r ⌝ }
 {
     if stored >= SIGN {
         (stored - SIGN) as i64
@@ -124,14 +124,14 @@ pub fn signed_of(stored: u64) -> i64
 
 // A stored number as a bool.
 pub fn flag_of(stored: u64) -> bool
-    ensures { λ r. ⌜ r ≡ flagOf stored ⌝ }
+    ensures { λ r. ⌜ FlagOfAs stored r ⌝ }
 {
     0 < stored
 }
 
 // The bits of the float that is stored as a number.
 pub fn float_of(stored: u64) -> u64
-    ensures { λ r. ⌜ r ≡ floatOf stored ⌝ }
+    ensures { λ r. ⌜ FloatOfAs stored r ⌝ }
 {
     if stored < SIGN {
         u64::MAX - stored
@@ -155,7 +155,7 @@ fn word_of(kind: Kind, stored: u64) -> u64
 
 // A list of stored numbers to the words of their values, in place. The kind does not change in the loop, so the compiler makes a loop for each, and none for plain numbers.
 pub fn words_as(kind: Kind, list: &mut [u64])
-    ensures { λ _. ⌜ now (list .exit) ≡ wordsAs kind (now (list .entry)) ⌝ }
+    ensures { λ _. ⌜ WordsOfAs kind (now (list .entry)) (now (list .exit)) ⌝ }
 {
     let mut i = 0;
     while i < list.len() {
@@ -166,7 +166,7 @@ pub fn words_as(kind: Kind, list: &mut [u64])
 
 // A row's answer as a signed number, or as a date's nanoseconds. Refusals stay as they are.
 pub fn signed(read: RowRead) -> SignedRead
-    ensures { λ r. ⌜ signedMeaning r ≡ readAs signedOf (rowMeaning read) ⌝ }
+    ensures { λ r. ⌜ SignedReadAs read r ⌝ }
 {
     match read {
         RowRead::Value(v) => SignedRead::Value(signed_of(v)),
@@ -176,7 +176,7 @@ pub fn signed(read: RowRead) -> SignedRead
 
 // As a bool.
 pub fn flag(read: RowRead) -> FlagRead
-    ensures { λ r. ⌜ flagMeaning r ≡ readAs flagOf (rowMeaning read) ⌝ }
+    ensures { λ r. ⌜ FlagReadAs read r ⌝ }
 {
     match read {
         RowRead::Value(v) => FlagRead::Value(flag_of(v)),
@@ -186,7 +186,7 @@ pub fn flag(read: RowRead) -> FlagRead
 
 // As a float's bits.
 pub fn float_bits(read: RowRead) -> FloatRead
-    ensures { λ r. ⌜ floatMeaning r ≡ readAs floatOf (rowMeaning read) ⌝ }
+    ensures { λ r. ⌜ FloatReadAs read r ⌝ }
 {
     match read {
         RowRead::Value(v) => FloatRead::Value(float_of(v)),
@@ -209,7 +209,7 @@ fn stored_signed(v: i64) -> u64
 
 // The range of the signed numbers, or dates, from low to high.
 pub fn signed_range(low: i64, high: i64) -> Range
-    ensures { λ r. ⌜ r ≡ signedRange low high ⌝ }
+    ensures { λ r. ⌜ SignedRangeAs low high r ⌝ }
 {
     Range {
         low: stored_signed(low),
@@ -219,7 +219,7 @@ pub fn signed_range(low: i64, high: i64) -> Range
 
 // Of the floats from low to high, by their bits, in the order of the stored numbers.
 pub fn float_range(low: u64, high: u64) -> Range
-    ensures { λ r. ⌜ r ≡ floatRange low high ⌝ }
+    ensures { λ r. ⌜ FloatRangeAs low high r ⌝ }
 {
     Range {
         low: stored_float(low),
@@ -243,7 +243,7 @@ fn last_flag(b: bool) -> u64
 
 // Of the bools from low to high: every stored number but 0 reads as true. From true to false is 1 to 0, which holds nothing.
 pub fn flag_range(low: bool, high: bool) -> Range
-    ensures { λ r. ⌜ r ≡ flagRange low high ⌝ }
+    ensures { λ r. ⌜ FlagRangeAs low high r ⌝ }
 {
     Range {
         low: first_flag(low),

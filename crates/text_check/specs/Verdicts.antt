@@ -5,6 +5,7 @@ use mathlib.Core.Path.{_≡_}
 use mathlib.Core.List.{List, [], _++_}
 use lib.Dec.{leb, eqb}
 use lib.ListN.{length}
+use Rattle.io.specs.Counts.{Counts}
 use Rattle.format.specs.Checking.{Reason, Reason.unopened, Reason.counts, Reason.unequal, Reason.minimum, Reason.gcd, Reason.maximum, Verdict, Verdict.passed, Verdict.failed, or, checked}
 use Rattle.format.specs.Listing.{ascii, named, namedLine, tooMany}
 use Rattle.format.specs.Opening.{Loaded}
@@ -47,6 +48,10 @@ judgement text s file = lineFor (valuesIn file) (sheetFrom text) s
 pub record JudgedAs (text s file : List ℕ) (n : ℕ) (before after old new : List ℕ) : Type 0 where
   pub values : after ≡ stored (valuesIn file) before
   pub line : Wrote old 0 (judgement text s file) new n
+
+-- `judge`: the same, and the answer counts bytes of the line
+abbrev pub JudgesAs : (text s file : List ℕ) (n : ℕ) (before after old new : List ℕ) → Type 0
+JudgesAs text s file n before after old new = JudgedAs text s file n before after old new × Counts n new
 
 -- ---- on the way
 

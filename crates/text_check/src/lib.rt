@@ -4,8 +4,7 @@ mod given;
 mod lines;
 mod verdicts;
 
-ghost use Rattle.io.specs.Counts.{Counts};
-ghost use Rattle.text_check.specs.Verdicts.{JudgedAs};
+ghost use Rattle.text_check.specs.Verdicts.{JudgesAs};
 use given::Taken;
 use text::lines::named_line;
 
@@ -18,8 +17,7 @@ pub fn judge(
     values: &mut [u64; 65536],
     line: &mut [u8; 128],
 ) -> usize
-    ensures { λ r. ⌜ JudgedAs (now (sheet .entry)) (now (bytes .entry)) (now (file .entry)) r (now (values .entry)) (now (values .exit)) (now (line .entry)) (now (line .exit)) ⌝ }
-    ensures { λ r. ⌜ Counts r (now (line .exit)) ⌝ }
+    ensures { λ r. ⌜ JudgesAs (now (sheet .entry)) (now (bytes .entry)) (now (file .entry)) r (now (values .entry)) (now (values .exit)) (now (line .entry)) (now (line .exit)) ⌝ }
 {
     match given::take(file, values) {
         Taken::Values(n) => {

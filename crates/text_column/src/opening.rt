@@ -1,8 +1,5 @@
 // Opening within a program's limits. It decides on the bytes alone: a program reads by the footer, and needs no table.
-ghost use mathlib.Core.Path.{_≡_};
-ghost use Rattle.format.specs.Listing.{openedHere};
-ghost use Rattle.format.specs.Opening.{columnIn};
-ghost use Rattle.format.specs.Refusals.{openedMeaning};
+ghost use Rattle.text_column.specs.Calls.{OpensHereAs};
 use format::Opened;
 use format::Refusal;
 
@@ -15,7 +12,7 @@ const BLOCKS_MAX: usize = 2048;
 
 // Opens a column of at most 65,536 bytes and 1,048,576 rows. A Blockwise column of more rows has more blocks than are taken.
 pub fn open_plain(bytes: &[u8]) -> Opened
-    ensures { λ r. ⌜ openedMeaning r ≡ columnIn (openedHere (now (bytes .entry))) ⌝ }
+    ensures { λ r. ⌜ OpensHereAs (now (bytes .entry)) r ⌝ }
 {
     if BYTES_MAX < bytes.len() {
         return Opened::Refused(Refusal::OverLimit);

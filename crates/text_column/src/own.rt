@@ -5,11 +5,11 @@ ghost use Prim.Native.Nat.{_-_};
 ghost use lib.ListN.{length};
 ghost use Rattle.format.specs.Bodies.{blockCount};
 ghost use Rattle.format.specs.Reading.{columnRow};
-ghost use Rattle.format.specs.Refusals.{rowMeaning, narrowedMeaning};
-ghost use Rattle.format.specs.Windows.{narrowing};
+ghost use Rattle.format.specs.Refusals.{rowMeaning};
 ghost use Rattle.read_row.specs.Chunks.{chunkSize};
 ghost use Rattle.text_column.specs.Holding.{Values};
-ghost use Rattle.text_column.specs.Own.{ownRow, blockRows, ownFirst, narrowedIn, ownIn, blockOf, passAt, ownAt, Owned, AtRow};
+ghost use Rattle.text_column.specs.Own.{ownRow, blockRows, ownFirst, blockOf, passAt, ownAt, Owned, AtRow};
+ghost use Rattle.text_column.specs.Calls.{NarrowsAs};
 use blockwise_linear::passing::Pass;
 use format::Block;
 use format::Codec;
@@ -61,8 +61,7 @@ pub fn begin(bytes: &[u8], column: Column) -> Own
 
 // Narrows a column's window to `count` rows from its row `first` on. The pass is over the column's blocks, and stays.
 pub fn narrow(own: Own, first: WindowRow, count: u32) -> Narrowed
-    ensures { λ r. ⌜ narrowedMeaning (narrowedIn r) ≡ narrowing (own .column) (first .0) count ⌝ }
-    ensures { λ r. ⌜ ownIn r .pass ≡ own .pass ⌝ }
+    ensures { λ r. ⌜ NarrowsAs (own .column) (own .pass) (first .0) count r ⌝ }
 {
     let pass = own.pass;
     match open_column::narrow(own.column, first.0, count) {
