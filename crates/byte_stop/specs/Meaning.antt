@@ -1,11 +1,13 @@
 -- What the answers of a reading mean: what was reached, or where it stops.
 -- Assumes nothing.
 use Prim.Native.Nat.{ℕ}
+use mathlib.Core.Path.{_≡_}
+use mathlib.Core.List.{List}
 use mathlib.Core.Option.{Option, none, some}
 use Rattle.format.specs.declared.Fields.{Fields}
 use Rattle.format.specs.declared.Head.{Head}
 use Rattle.format.specs.declared.Stop.{Stop}
-use Rattle.format.specs.Stops.{Reach, Reach.reached, Reach.stops}
+use Rattle.format.specs.Stops.{Reach, Reach.reached, Reach.stops, stopOf}
 use Rattle.byte_stop.specs.declared.Stopping.{Stopping}
 use Rattle.byte_stop.specs.declared.Stopping.the-variants.{At, Nowhere}
 use Rattle.byte_stop.specs.declared.fields.HeadReach.{HeadReach}
@@ -19,6 +21,10 @@ use Rattle.byte_stop.specs.declared.bodies.AreaReach.the-variants.{Area 
 abbrev pub stopMeaning : Stopping → Option Stop
 stopMeaning (At t) = some t
 stopMeaning Nowhere = none
+
+-- what `stop` promises: opening stops there
+abbrev pub StopsAs : (s : List ℕ) → Stopping → Type 0
+StopsAs s r = stopMeaning r ≡ stopOf s
 
 -- a head
 abbrev pub headMeaning : HeadReach → Reach Head

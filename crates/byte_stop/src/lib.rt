@@ -4,9 +4,7 @@ mod bodies;
 mod fields;
 pub mod numbers;
 
-ghost use mathlib.Core.Path.{_≡_};
-ghost use Rattle.format.specs.Stops.{stopOf};
-ghost use Rattle.byte_stop.specs.Meaning.{stopMeaning};
+ghost use Rattle.byte_stop.specs.Meaning.{StopsAs};
 use fields::HeadReach;
 use format::PartName;
 use format::Stop;
@@ -19,7 +17,7 @@ pub enum Stopping {
 
 // Where opening some bytes stops, given a table for all blocks.
 pub fn stop(bytes: &[u8]) -> Stopping
-    ensures { λ r. ⌜ stopMeaning r ≡ stopOf (now (bytes .entry)) ⌝ }
+    ensures { λ r. ⌜ StopsAs (now (bytes .entry)) r ⌝ }
 {
     if bytes.len() == 0 {
         return Stopping::At(Stop {
