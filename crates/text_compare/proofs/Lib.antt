@@ -8,6 +8,8 @@ pub mod RowLines
 -- what a comparison says
 pub mod Feeds
 pub mod Comparisons
+-- the way from chunk to chunk
+pub mod Ways
 pub mod Columns
 pub mod Cases
 -- how a comparison begins
