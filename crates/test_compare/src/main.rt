@@ -3,6 +3,7 @@
 ghost use Prim.Native.Nat.{ℕ, _+_, _≤_, _<_};
 ghost use mathlib.Core.List.{List};
 ghost use lib.ListN.{length};
+ghost use Rattle.text_compare.specs.Way.{handMax};
 ghost use Rattle.text_column.specs.Own.{Owned};
 use format::Window;
 use format::WindowRow;
@@ -10,7 +11,7 @@ use libc::STDOUT_FILENO;
 use text_column::own::Narrowed;
 use text_column::own::Own;
 use text_compare::Begun;
-use text_compare::Compared;
+use text_compare::way;
 use tool_files::cases::length_at;
 
 // The windows of the two sides.
@@ -39,19 +40,24 @@ fn narrowed(own: Own, window: Window) -> Own
     }
 }
 
-// Internal: asks for two columns, each opened of its bytes. Writes the lines of the rows from `from` on that differ for which a small buffer has room, and returns what was taken.
-fn show_rows(left: Own, lbytes: &[u8], right: Own, rbytes: &[u8], from: u32) -> Compared
-    requires { ⌜ Owned (now lbytes) (left .column) (left .pass) ⌝ }
-    requires { ⌜ Owned (now rbytes) (right .column) (right .pass) ⌝ }
+// Internal: asks for two columns, each opened of its bytes, and for a buffer that has room for the longest line. Writes their comparison, a bufferful at a time, until a write fails.
+fn write_rows(own: Own, left: &[u8], its: Own, right: &[u8], out: &mut [u8])
+    requires { ⌜ Owned (now left) (own .column) (own .pass) ⌝ }
+    requires { ⌜ Owned (now right) (its .column) (its .pass) ⌝ }
+    requires { ⌜ handMax ≤ length (now out) ⌝ }
 {
-    let mut out = io::buffer();
-    let took = text_compare::fill_lines(left, lbytes, right, rbytes, WindowRow(from), &mut out);
-    let n = took.bytes;
-    io::write_all(STDOUT_FILENO, &out[..n]);
-    took
+    let mut at = way::over(own, its);
+    while way::more(at) {
+        let handed = way::fill(at, left, right, out);
+        let n = handed.bytes;
+        if !io::write_all(STDOUT_FILENO, &out[..n]) {
+            return;
+        }
+        at = handed.way;
+    }
 }
 
-// Writes a title and the comparison of some bytes with others, each through its window. Two buffers have room for the lines of every pair here.
+// Writes a title and the comparison of some bytes with others, each through its window.
 fn show(title: &[u8], left: &[u8], right: &[u8], windows: Windows) {
     io::write_all(STDOUT_FILENO, title);
     let mut line = [0u8; 128];
@@ -62,11 +68,8 @@ fn show(title: &[u8], left: &[u8], right: &[u8], windows: Windows) {
         Begun::Columns(own, its) => {
             let a = narrowed(own, windows.left);
             let b = narrowed(its, windows.right);
-            let first = show_rows(a, left, b, right, 0);
-            let next = show_rows(a, left, b, right, first.rows);
-            let lines = std::num::wrapping_add_u32(first.lines, next.lines);
-            let end = text_compare::end_line(lines, &mut line);
-            io::write_all(STDOUT_FILENO, &line[..end]);
+            let mut out = io::buffer();
+            write_rows(a, left, b, right, &mut out);
         }
     }
 }

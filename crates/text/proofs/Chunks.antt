@@ -3,7 +3,6 @@
 --     chunk-none, chunk-full        no row left, or no room for a longest text: nothing is taken
 --     rows-more, chunk-more         else the next row's text, and then what a chunk takes from there on
 --     chunk-most, chunk-some        no more rows than are left; one at least, where one is left and a longest text has room
---     chunk-within                  a chunk stays in its room
 --     chunks-all                    chunk after chunk is the text of all rows
 --     Took, took                    what a caller that goes on from chunk to chunk has of an answer
 -- Assumes nothing.
@@ -15,7 +14,7 @@ use native.Mathlib.Nat.{add-zero, zero-add, suc-add, add-suc}
 use native.Mathlib.Numerals.{add-one}
 use native.Mathlib.Omega.{arith}
 use borrow.Author.Tests.{lt-ltb, le-ltb}
-use lib.ListN.{length, length-append}
+use lib.ListN.{length}
 use Rattle.format.specs.Listing.{rowTexts}
 use Rattle.format.proofs.Lists.{below-or}
 use Rattle.text.specs.Chunk.{rowsFor, chunkRows, chunk, chunks}
@@ -57,22 +56,6 @@ module _ (text : ℕ → List ℕ) (most : ℕ) where
       (λ free. omega (arith, rows-next room r n free, rows-most n (room - length (text r)) (suc r)))
       (below-or room most)
 
-  -- within the room
-  rows-within : (n room r : ℕ) → ((i : ℕ) → i < r + n → length (text i) ≤ most) → length (rowTexts text r (rowsFor text most room r n)) ≤ room
-  unfolding rowsFor rowTexts
-  rows-within zero room r short = omega arith
-  rows-within (suc n) room r short =
-      ⊎-elim
-      (λ full. rw (rows-full room r (suc n) full) (omega arith))
-      (λ free. rw (rows-next room r n free)
-      (omega (
-        arith,
-        length-append (text r) (rowTexts text (suc r) (rowsFor text most (room - length (text r)) (suc r) n)),
-        short r (omega arith),
-        rows-within n (room - length (text r)) (suc r) (λ i h. short i (omega arith)),
-      )))
-      (below-or room most)
-
 module _ (text : ℕ → List ℕ) (most rows : ℕ) where
   -- no row is left
   pub chunk-none : (room r : ℕ) → rows ≤ r → chunkRows text most rows room r ≡ 0
@@ -105,15 +88,6 @@ module _ (text : ℕ → List ℕ) (most rows : ℕ) where
   -- one at least, where one is left and a longest text has room
   pub chunk-some : (room r : ℕ) → r < rows → most ≤ room → 0 < chunkRows text most rows room r
   chunk-some room r more free = omega (arith, rows-more room r more free)
-
-  -- within the room, where no text is longer than the longest
-  pub chunk-within : (room r : ℕ) → ((i : ℕ) → i < rows → length (text i) ≤ most) → length (chunk text most rows room r) ≤ room
-  unfolding rowTexts
-  chunk-within room r short =
-      ⊎-elim
-      (λ more. rows-within text most (rows - r) room r (λ i h. short i (omega arith)))
-      (λ over. rw (chunk-none room r over) (omega arith))
-      (below-or r rows)
 
   -- ---- chunk after chunk
 

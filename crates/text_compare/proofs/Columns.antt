@@ -1,6 +1,4 @@
 -- What a comparison of two opened columns says, each seen through its window.
---     comparison-left, -right                        a side that does not open: one line
---     through-within                                 each chunk stays in its room
 --     lacks-left, lacks-right                        a row of one side only has a line
 --     equal-windows, equal-columns                   `lines 0` exactly for as many rows with equal answers
 --     shownRow, shown-row, windows-compared          comparing windows is comparing those rows of the columns, numbered from the windows' starts
@@ -15,7 +13,6 @@ use mathlib.Core.List.{List, [], _++_}
 use native.Mathlib.Omega.{arith}
 use borrow.Author.Tests.{eqb-true, lt-ltb, le-ltb, le-leb}
 use lib.Dec.{ltb}
-use lib.ListN.{length}
 use Rattle.format.specs.declared.Column.{Column}
 use Rattle.format.specs.declared.Window.{Window}
 use Rattle.format.specs.Outcome.{Outcome, Outcome.value, Outcome.refusal, pick}
@@ -30,15 +27,12 @@ use Rattle.format.proofs.Rows.{row-answers, ValueOr14, value-or-14}
 use Rattle.format.proofs.Windows.{wholly}
 use Rattle.format.proofs.WindowRuns.{countedFrom, window-answer}
 use Rattle.text.specs.Chunk.{chunks}
-use Rattle.text.proofs.Chunks.{chunk-within}
 use Rattle.text_column.specs.Own.{tableOf, ownRow, Shows}
 use Rattle.text_column.proofs.Limits.{here-opened}
-use Rattle.text_column.proofs.Owns.{own-few, own-window}
-use Rattle.text_column.proofs.Rows.{here-rows, own-reads, own-lacking, opens-shows, by-shown, shows-laid, own-sayable}
-use Rattle.text_compare.specs.Beginning.{onlyLine}
-use Rattle.text_compare.specs.Chunk.{pairMax, textOf, pairChunk, lineCounts}
+use Rattle.text_column.proofs.Owns.{own-window}
+use Rattle.text_column.proofs.Rows.{here-rows, own-reads, own-lacking, opens-shows, by-shown, shows-laid}
+use Rattle.text_compare.specs.Chunk.{pairMax, textOf, lineCounts}
 use Rattle.text_compare.specs.Through.{comparedThrough}
-use Rattle.text_compare.proofs.RowLines.{text-most}
 use Rattle.text_compare.proofs.Comparisons.{equal-self, nothing-differs, chunks-compared, compared-self}
 
 -- ---- one column
@@ -67,30 +61,12 @@ no-absent : (r : ℕ) (b : Outcome ℕ) → ValueOr14 r b → (equalAnswers (ref
 no-absent r b (inl w) = rw (w .1) (refl, refl)
 no-absent r b (inr w) = rw w (refl, refl)
 
--- ---- the comparison
-
--- a side that does not open is the only line
-pub comparison-left : (s t : List ℕ) (number : ℕ) (also : List ℕ) → openedHere s ≡ refusal number also → onlyLine (openedHere s) (openedHere t) ≡ comparison s t
-unfolding comparison
-comparison-left s t number also e = rw e
-
-pub comparison-right : (s t : List ℕ) (o : Loaded) (number : ℕ) (also : List ℕ) → openedHere s ≡ value o → openedHere t ≡ refusal number also
-    → onlyLine (openedHere s) (openedHere t) ≡ comparison s t
-unfolding comparison
-comparison-right s t o number also e f = rw (e, f)
-
 -- ---- seen through their windows
 
 module _ {s t : List ℕ} {c d : Column} (e : Shows s c) (f : Shows t d) where
   -- the rows of either window
   abbrev rows : ℕ
   rows = max (c .window .rows) (d .window .rows)
-
-  -- a chunk stays within its room
-  pub through-within : (room r : ℕ) → length (pairChunk (ownRow c s) (ownRow d t) rows room r) ≤ room
-  through-within room r =
-      chunk-within (textOf (ownRow c s) (ownRow d t)) pairMax rows room r
-      (λ i h. text-most i (ownRow c s i) (ownRow d t i) (omega (arith, own-window e, own-few e, own-window f, own-few f)) (own-sayable e i) (own-sayable f i))
 
   -- a row of one side only has a line
   pub lacks-left : (x : ℕ) → c .window .rows ≤ x → x < d .window .rows → equalAnswers (ownRow c s x) (ownRow d t x) ≡ false

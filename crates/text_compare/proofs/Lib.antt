@@ -4,10 +4,11 @@
 pub mod Answers
 pub mod Differing
 pub mod Filling
-pub mod RowLines
 -- what a comparison says
 pub mod Feeds
 pub mod Comparisons
+-- the way from chunk to chunk
+pub mod Ways
 pub mod Columns
 pub mod Cases
 -- how a comparison begins

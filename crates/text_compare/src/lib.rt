@@ -2,6 +2,7 @@
 // lines. A side that does not open is a line of its own. Both sides begin as whole columns; to compare windows, narrow them (`text_column::own::narrow`) before the first chunk. No argument makes a call
 // fail, and each contract says what every lent entry holds afterwards.
 mod lines;
+pub mod way;
 
 ghost use Rattle.format.specs.Listing.{openedHere};
 ghost use Rattle.text_compare.specs.Beginning.{BegunAs, BegunOn};

@@ -6,8 +6,9 @@ pub mod Beginnings
 pub mod Wording
 -- parts by their number
 pub mod Placing
+-- the way from chunk to chunk
+pub mod Ways
 -- what the calls come to
-pub mod Explanations
 pub mod Determined
 -- computed cases
 pub mod ExplainCases

@@ -1,3 +1,4 @@
 pub mod Chunk
 pub mod Explained
 pub mod Words
+pub mod Way

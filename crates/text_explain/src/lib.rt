@@ -1,6 +1,7 @@
 // A column's parts as text: a line for each part that has bytes, as many at a time as a lent buffer has room for. What does not open is a line of its
 // own. No argument makes a call fail, and each contract says what every lent entry holds afterwards.
 mod lines;
+pub mod way;
 pub mod words;
 
 ghost use Rattle.format.specs.Listing.{openedHere};

@@ -50,26 +50,14 @@ owned c =
     let both = begun-owned (rw (o .own .given .1) at (o .before .before .begin .ensures)) in
     (c .before .narrowed .ensures _ (both .0), c .narrowed2 .ensures _ (both .1))
 
-show-rows-requires : tie.Need-show-rows-requires
-show-rows-requires c κs = owned c
+buffer-requires : tie.Need-buffer-requires
+buffer-requires c κs = search needs
 
-show-rows-requires-2 : tie.Need-show-rows-requires-2
-show-rows-requires-2 c κs = owned (c .before)
+slice-aggregate-write-rows : tie.Need-slice-aggregate-write-rows
+slice-aggregate-write-rows c = search needs
 
-wrapping-add-u32-requires : tie.Need-wrapping-add-u32-requires
-wrapping-add-u32-requires c κs = search needs
-
-end-line-requires : tie.Need-end-line-requires
-end-line-requires c κs = search needs
-
-array-share-prefix-line-2 : tie.Need-array-share-prefix-line-2
-array-share-prefix-line-2 c = search needs
-
-slice-aggregate-write-all-2 : tie.Need-slice-aggregate-write-all-2
-slice-aggregate-write-all-2 c = search needs
-
-write-all-requires-3 : tie.Need-write-all-requires-3
-write-all-requires-3 c κs = search needs
+write-rows-requires : tie.Need-write-rows-requires
+write-rows-requires c κs = let both = owned (c .before .before) in (both .0, (both .1, search needs))
 
 returns : tie.Need-returns
 returns c = search needs
@@ -90,12 +78,8 @@ show-spec =
     enum-known-own
     narrowed-requires
     narrowed-requires-2
-    show-rows-requires
-    show-rows-requires-2
-    wrapping-add-u32-requires
-    end-line-requires
-    array-share-prefix-line-2
-    slice-aggregate-write-all-2
-    write-all-requires-3
+    buffer-requires
+    slice-aggregate-write-rows
+    write-rows-requires
     returns
     returns-2)

@@ -1,59 +1,80 @@
--- `write_explanation` is safe: the line's length that beginning answers lies inside the line.
+-- `write_explanation` is safe and ends: it is handed a chunk at each turn, and each makes the way shorter.
 -- Assumes nothing.
-use Rattle.io.specs.Counts.{Counts}
-use borrow.Author.Needs.{needs}
+use Prim.Native.Nat.{_≤_}
+use mathlib.Core.Path.{_≡_, refl, sym, _∙_}
+use native.Mathlib.Omega.{arith}
+use lib.ListN.{length}
+use Rattle.text_explain.specs.Way.{handMax}
+use Rattle.text_explain.proofs.Ways.{left, handed-less}
 use Rattle.tool_explain.proofs.write_explanation.Statement.{statement}
 use Rattle.tool_explain.proofs.write_explanation.Tie as tie
 
--- a refusal's line is there
-only-line : (c : tie.After-n) → Counts (c .n .given .0 .0) (c .before .before .begin .last .1 .0)
-only-line c = rw (c .n .given .1) at (c .before .before .begin .ensures .counts)
+abbrev Inv-loop : tie.InvT-loop
+Inv-loop bytes out₀ at₀ out at = (handMax ≤ length out) × (length out ≡ length out₀)
 
-begin-requires : tie.Need-begin-requires
-begin-requires c κs = search needs
+abbrev μ-loop : tie.MeasureT-loop
+μ-loop bytes out₀ at₀ out at = left bytes at
 
-enum-known-n : tie.Need-enum-known-n
-enum-known-n c = search needs
+begin-requires : tie.Need-begin-requires Inv-loop μ-loop
+begin-requires c κs = tt
 
-array-share-prefix-line : tie.Need-array-share-prefix-line
-array-share-prefix-line c = only-line (c .before) .0
+loop-holds : tie.Need-loop-holds Inv-loop μ-loop
+loop-holds c = (c .before .before .before .pre, refl)
 
-slice-aggregate-write-all : tie.Need-slice-aggregate-write-all
-slice-aggregate-write-all c = only-line (c .before .before) .1
+more-requires : tie.Need-more-requires Inv-loop μ-loop
+more-requires c κs = tt
 
-write-all-requires : tie.Need-write-all-requires
-write-all-requires c κs = search needs
+fill-requires : tie.Need-fill-requires Inv-loop μ-loop
+fill-requires c κs = tt
 
-enum-known-column : tie.Need-enum-known-column
-enum-known-column c = search needs
+slice-reshare-prefix-write-all : tie.Need-slice-reshare-prefix-write-all Inv-loop μ-loop
+slice-reshare-prefix-write-all c = c .before .before .fill .ensures .counts .0
 
-large-buffer-requires : tie.Need-large-buffer-requires
-large-buffer-requires c κs = search needs
+slice-aggregate-write-all : tie.Need-slice-aggregate-write-all Inv-loop μ-loop
+slice-aggregate-write-all c = c .before .before .before .fill .ensures .counts .1
 
-slice-aggregate-write-parts : tie.Need-slice-aggregate-write-parts
-slice-aggregate-write-parts c = search needs
+write-all-requires : tie.Need-write-all-requires Inv-loop μ-loop
+write-all-requires c κs = tt
 
-write-parts-requires : tie.Need-write-parts-requires
-write-parts-requires c κs = search needs
+same-length : tie.Need-same-length Inv-loop μ-loop
+same-length c = omega (arith, c .before .before .before .before .before .fill .kept)
 
-returns : tie.Need-returns
-returns c = search needs
+returns : tie.Need-returns Inv-loop μ-loop
+returns c = tt
 
-returns-2 : tie.Need-returns-2
-returns-2 c = search needs
+loop-less : tie.Need-loop-less Inv-loop μ-loop
+loop-less c =
+    let f = c .before .before .before .before .before in
+    let more = f .before .before .before in
+    handed-less (more .before .loop .inv .0) (sym (more .more .ensures) ∙ f .before .before .if1 .taken) (f .fill .ensures)
+
+loop-again : tie.Need-loop-again Inv-loop μ-loop
+loop-again c =
+    let f = c .before .before .before .before .before in
+    (omega (arith, f .fill .kept), omega (arith, f .fill .kept))
+
+same-length-2 : tie.Need-same-length-2 Inv-loop μ-loop
+same-length-2 c = omega arith
+
+returns-2 : tie.Need-returns-2 Inv-loop μ-loop
+returns-2 c = tt
 
 pub write-explanation-spec : {M : Type 1} → statement M
 write-explanation-spec =
     tie.close
     (tie.spec
+    Inv-loop
+    μ-loop
     begin-requires
-    enum-known-n
-    array-share-prefix-line
+    loop-holds
+    more-requires
+    fill-requires
+    slice-reshare-prefix-write-all
     slice-aggregate-write-all
     write-all-requires
-    enum-known-column
-    large-buffer-requires
-    slice-aggregate-write-parts
-    write-parts-requires
+    same-length
     returns
+    loop-less
+    loop-again
+    same-length-2
     returns-2)
