@@ -69,7 +69,8 @@ fn block_rows(left: u32) -> u32
     if left < 512 { left } else { 512 }
 }
 
-// Internal: asks that the area's bytes can be counted. The place behind a block of so many bits, from its own place and the offset behind its fields.
+// Internal: asks that the area's bytes can be counted. The place behind a block of so many bits, from its own place and the offset behind
+// its fields.
 fn behind(c: Cursor, bits: u8, next: usize) -> Cursor
     requires { ⌜ Small c × (bits ≤ 64) ⌝ }
     ensures { λ r. ⌜ Small r × (r ≡ record { at = next; start = c .start + bytesFor (bits * min (c .left) 512); left = c .left - 512 }) ⌝ }

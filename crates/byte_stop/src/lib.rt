@@ -1,5 +1,5 @@
-// Where opening stops: the part that was being read and the offset where it begins, for any bytes. The bytes are read once more in opening's order, and every
-// refusal on the way names its part.
+// Where opening stops: the part that was being read and the offset where it begins, for any bytes. The bytes are read once more in
+// opening's order, and every refusal on the way names its part.
 mod bodies;
 mod fields;
 pub mod numbers;

@@ -1,5 +1,5 @@
-// Where opening stops as four plain numbers: the refusal's, the part, the number of its block, 0 where it is no block's, and the offset where it begins. All are 0
-// where opening does not stop.
+// Where opening stops as four plain numbers: the refusal's, the part, the number of its block, 0 where it is no block's, and the offset
+// where it begins. All are 0 where opening does not stop.
 ghost use mathlib.Core.Path.{_≡_};
 ghost use Rattle.format.specs.Stops.{stopOf};
 ghost use Rattle.byte_stop.specs.Numbers.{stopNumbers};

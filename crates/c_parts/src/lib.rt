@@ -64,8 +64,8 @@ fn fill(column: Column, bytes: &[u8], from: Cursor, list: &mut [u64]) -> Filled
     }
 }
 
-// Puts the parts of a column of twelve numbers into a list, five numbers each, from the place of a cursor on, which is then the place behind them. Returns how many there are, 0
-// on refusal: fewer than the list has room for, only if there are no more.
+// Puts the parts of a column of twelve numbers into a list, five numbers each, from the place of a cursor on, which is then the place
+// behind them. Returns how many there are, 0 on refusal: fewer than the list has room for, only if there are no more.
 pub fn list_parts(
     column: &[u64; 12],
     bytes: &[u8],

@@ -42,7 +42,8 @@ linears-stop : map (λ body. stopOf (0x01 ∷ 0x87 ∷ 0x81 ∷ 0x80 ∷ 0x81 �
 unfolding reach reachHead reachFields reachBody readVarint scan readWidth
 linears-stop = refl
 
--- Blockwise, behind the head of three rows: the footer's length missing, too great; a block's fields; an area that runs into the footer; the last opens
+-- Blockwise, behind the head of three rows: the footer's length missing, too great; a block's fields; an area that runs into the footer;
+-- the last opens
 footers-stop : map (λ body. stopOf (0x02 ∷ 0x8A ∷ 0x8A ∷ 0x82 ∷ 0x83 ∷ body))
     ((0x00 ∷ 0x00 ∷ 0x00 ∷ [])
     ∷ (0x08 ∷ 0x00 ∷ 0x00 ∷ 0x00 ∷ 0x00 ∷ 0x88 ∷ 0x80 ∷ 0x02 ∷ 0x09 ∷ 0x00 ∷ 0x00 ∷ 0x00 ∷ [])

@@ -49,7 +49,8 @@ pub extern "C" fn hulemartob_part_at(
     }
 }
 
-// The parts from the place of a cursor on, five numbers each, as many as the list has room for; the cursor's place is then behind them. Returns how many there are, 0 on refusal.
+// The parts from the place of a cursor on, five numbers each, as many as the list has room for; the cursor's place is then behind them.
+// Returns how many there are, 0 on refusal.
 #[no_mangle]
 pub extern "C" fn hulemartob_parts(
     column: &[u64; 12],

@@ -1,4 +1,5 @@
--- `byte_stop::fields::fields` meets its contract: at each `return` the fields that were read, and the tests passed, say which way `reachFields` goes.
+-- `byte_stop::fields::fields` meets its contract: at each `return` the fields that were read, and the tests passed, say which way
+-- `reachFields` goes.
 -- Assumes nothing.
 use mathlib.Core.Path.{_≡_, refl}
 use mathlib.Core.Bool.{true}

@@ -1,4 +1,5 @@
--- `byte_stop::fields::head` meets its contract: at each `return` the fields that were read, and the tests passed, say which way `reachHead` goes.
+-- `byte_stop::fields::head` meets its contract: at each `return` the fields that were read, and the tests passed, say which way
+-- `reachHead` goes.
 -- Assumes nothing.
 use mathlib.Core.Path.{_≡_, sym, _∙_}
 use mathlib.Core.Bool.{true, false}
