@@ -1,8 +1,8 @@
 // The short way to a row: straight from the twelve numbers of a column, where nothing is out of the ordinary. All that reading tests is tested; a test that fails
 // finds nothing, and the caller goes the long way, which tells why. So each promise here is one-sided: what is found is right.
 //
-// What keeps it short when compiled: the codec is told apart first, each test stands where its numbers are needed, eight bytes are one sum of eight terms, and a
-// width of 64 bits is a call of its own.
+// What keeps it short when compiled: the codec is told apart first, a number is read between two tests, since two tests with none between them are made one branch of
+// more instructions, eight bytes are one sum of eight terms, and a width of 64 bits is a call of its own.
 ghost use mathlib.Core.Path.{_≡_};
 ghost use mathlib.Core.Bool.{true};
 ghost use Prim.Native.Nat.{ℕ, _+_, _*_, _/_, _%_, _^_, _≤_, _<_};
@@ -28,19 +28,19 @@ const MISSED: Direct = Direct {
 fn place_of(numbers: &[u64; 12], row: u32) -> Direct
     ensures { λ d. ⌜ (d .found ≡ true → Shown (now (numbers .entry)) row (d .value)) ⌝ }
 {
-    let shown = numbers[11];
-    if shown <= row as u64 {
+    let rows = numbers[4];
+    if 0xffff_ffff < rows {
         return MISSED;
     }
-    let rows = numbers[4];
+    let shown = numbers[11];
     if rows < shown {
+        return MISSED;
+    }
+    if shown <= row as u64 {
         return MISSED;
     }
     let first = numbers[10];
     if rows - shown < first {
-        return MISSED;
-    }
-    if 0xffff_ffff < rows {
         return MISSED;
     }
     Direct {
@@ -132,21 +132,21 @@ fn number_at(numbers: &[u64; 12], bytes: &[u8], from: u64, width: u64, row: u64)
     requires { ⌜ (legal width ≡ true) × (0 < width) × (row < 2 ^ 32) ⌝ }
     ensures { λ d. ⌜ (d .found ≡ true → Stands (now (numbers .entry)) (now (bytes .entry)) from width row (d .value)) ⌝ }
 {
-    let bit = row * width;
-    let at = bit / 8;
-    let size = numbers[6];
-    if size < from {
-        return MISSED;
-    }
-    if size - from < at + 8 {
-        return MISSED;
-    }
     let start = numbers[5];
     let all = bytes.len() as u64;
     if all < start {
         return MISSED;
     }
+    let size = numbers[6];
     if all - start < size {
+        return MISSED;
+    }
+    if size < from {
+        return MISSED;
+    }
+    let bit = row * width;
+    let at = bit / 8;
+    if size - from < at + 8 {
         return MISSED;
     }
     let word = eight(bytes, (start + from + at) as usize);

@@ -18,26 +18,26 @@ use Rattle.c_row.proofs.number_at.Tie as tie
 few-bits : (c : tie.Start) → c .args .row * c .args .width ≤ c .args .row * 64
 few-bits c = mul-le-mul-left (c .args .row) (legal-most (c .args .width) (c .pre .0))
 
-mul-bit : tie.Need-mul-bit
-mul-bit c = omega (arith, few-bits (c .before), c .before .pre .2)
-
-element-copy-out-size : tie.Need-element-copy-out-size
-element-copy-out-size c = search needs
+element-copy-out-start : tie.Need-element-copy-out-start
+element-copy-out-start c = search needs
 
 returns : tie.Need-returns
 returns c e = absurd (false≢true e)
 
-add-if2 : tie.Need-add-if2
-add-if2 c = let s = c .before .before .before in omega (arith, few-bits s, s .pre .2)
+element-copy-out-size : tie.Need-element-copy-out-size
+element-copy-out-size c = search needs
 
 returns-2 : tie.Need-returns-2
 returns-2 c e = absurd (false≢true e)
 
-element-copy-out-start : tie.Need-element-copy-out-start
-element-copy-out-start c = search needs
-
 returns-3 : tie.Need-returns-3
 returns-3 c e = absurd (false≢true e)
+
+mul-bit : tie.Need-mul-bit
+mul-bit c = let s = c .before .before .before .before .before .before in omega (arith, few-bits s, s .pre .2)
+
+add-if4 : tie.Need-add-if4
+add-if4 c = let s = c .before .before .before .before .before .before in omega (arith, few-bits s, s .pre .2)
 
 returns-4 : tie.Need-returns-4
 returns-4 c e = absurd (false≢true e)
@@ -56,15 +56,17 @@ field-requires c κs = let s = c .before .before .before .before .before .before
 
 returns-5 : tie.Need-returns-5
 returns-5 c e =
-    let few = c .before .before in
-    let inside = few .before .before .before in
-    let known = inside .before .before .before in
+    let ends = c .before .before in
+    let from = ends .before in
+    let size = from .before in
+    let start = size .before .before in
+    let known = start .before .before in
     let s = known .before in
     let a = s .args in
     let bytes : AllBelow 256 (now (a .bytes)) = λ i h. known .shared-slice-known .given i .fits in
     record {
-      area = omega (arith, few .if4 .left, few .before .if3 .left);
-      ends = ends-inside (a .width) (a .row) (a .from) (getD (now (a .numbers)) 6 0) (s .pre .0) (inside .before .if1 .left) (inside .if2 .left);
+      area = omega (arith, size .if2 .left, start .if1 .left);
+      ends = ends-inside (a .width) (a .row) (a .from) (getD (now (a .numbers)) 6 0) (s .pre .0) (from .if3 .left) (ends .if4 .left);
       number =
           c .field .ensures
           ∙ ap (λ (x : ℕ). x / 2 ^ (a .row * a .width % 8) % 2 ^ a .width) (c .before .eight .ensures)
@@ -75,13 +77,13 @@ pub number-at-spec : {M : Type 1} → statement M
 number-at-spec =
     tie.close
     (tie.spec
-    mul-bit
-    element-copy-out-size
-    returns
-    add-if2
-    returns-2
     element-copy-out-start
+    returns
+    element-copy-out-size
+    returns-2
     returns-3
+    mul-bit
+    add-if4
     returns-4
     add-eight
     add-eight-2
