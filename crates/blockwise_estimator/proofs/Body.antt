@@ -5,12 +5,14 @@
 --     body-length, body-takes, wrote-body     the body, part by part
 --     estimate-is, estimate-none              the estimate
 -- Assumes nothing.
-use Prim.Native.Nat.{ℕ, _+_, _-_, _/_, _^_, _<_}
+use Prim.Native.Nat.{ℕ, _+_, _-_, _/_, _^_, _≤_, _<_}
 use mathlib.Core.Path.{_≡_, refl, sym, ap, ap₂, _∙_}
 use mathlib.Core.Option.{some}
 use mathlib.Core.List.{List, [], _∷_, _++_, map, append-assoc}
+use native.Mathlib.Nat.{zero-add}
 use native.Mathlib.Omega.{arith}
-use lib.ListN.{length, length-append}
+use lib.ListN.{length, take, drop, length-append}
+use lib.Seq.{sets, sets-eq}
 use Rattle.format.specs.declared.ColumnStats.{ColumnStats}
 use Rattle.format.specs.Outcome.{Wrote}
 use Rattle.format.specs.Packing.{numBytes}
@@ -19,7 +21,7 @@ use Rattle.format.specs.Bodies.{normalised, blocks, footer, blockwise}
 use Rattle.format.specs.Saving.{saving}
 use Rattle.format.specs.Writing.{blockSizes, sizeOf}
 use Rattle.format.proofs.BlockBytes.{areas-few, entries-few, shares}
-use Rattle.format.proofs.Stores.{wrote-then}
+use Rattle.format.proofs.Stores.{wrote-then, rest-room, rest-wrote}
 use Rattle.format.proofs.Gathering.{length-numBytes}
 use Rattle.stats.specs.Asked.{Describes}
 use Rattle.stats.proofs.Described.{sound-of, value-above}
@@ -62,16 +64,25 @@ pub body-takes : (s : ColumnStats) (vs : List ℕ) {sizes : Sizes} → Takes (ma
     → length (spellHead s) + (sizes .area + sizes .footer) + 4 ≡ length (blockwise s vs)
 body-takes s vs t = rw (t .packs, t .fields) (sym (body-length s vs))
 
--- head, areas and entries, and the footer's length, written one behind the other
-pub wrote-body : (s : ColumnStats) (vs : List ℕ) {o l m n : List ℕ} {at i j k : ℕ} → Wrote o at (spellHead s) l i
-    → Wrote l i (areas (map (normalised s) vs) ++ entries (map (normalised s) vs)) m j
-    → (size : ℕ) → size ≡ length (entries (map (normalised s) vs)) → Wrote m j (numBytes 4 size) n k → Wrote o at (blockwise s vs) n k
+-- the head, and areas, entries and the footer's length in the output behind it
+pub wrote-body : (s : ColumnStats) (vs : List ℕ) {o l last : List ℕ} {at i r : ℕ} (size : ℕ) → Wrote o at (spellHead s) l i → length l ≡ length o
+    → at + length (blockwise s vs) ≤ length o → size ≡ length (entries (map (normalised s) vs))
+    → Wrote (take (length l - i) (drop i l)) 0 ((areas (map (normalised s) vs) ++ entries (map (normalised s) vs)) ++ numBytes 4 size) last r
+    → Wrote o at (blockwise s vs) (take i l ++ (last ++ drop (length l - i) (drop i l))) (i + r)
 unfolding blockwise
-wrote-body s vs {n = n} {k = k} a b size e c =
+wrote-body s vs {o} {l} {last} {at} {i} {r} size head kept room e w =
     let packs = areas (map (normalised s) vs) in
     let es = entries (map (normalised s) vs) in
-    let rest = wrote-then b (rw e at c) in
-    wrote-then a (rw (append-assoc packs es (numBytes 4 (length es))) at rest)
+    let front = (packs ++ es) ++ numBytes 4 size in
+    let part = take (length l - i) (drop i l) in
+    let there : i + length front ≤ length o =
+    omega (arith, head .ends, body-length s vs, length-append (packs ++ es) (numBytes 4 size), length-append packs es, length-numBytes 4 size) in
+    let inside : 0 + length front ≤ length part = omega (arith, rest-room l o i kept there) in
+    let long : r ≡ length front = w .ends ∙ zero-add (length front) in
+    let filled : last ≡ front ++ drop (length front) part = w .list ∙ sets-eq front part 0 inside ∙ ap (λ (k : ℕ). front ++ drop k part) (zero-add (length front)) in
+    let whole = rest-wrote i (length front) front l o last refl kept there filled in
+    let same : front ≡ packs ++ (es ++ numBytes 4 (length es)) = ap (λ (k : ℕ). (packs ++ es) ++ numBytes 4 k) e ∙ append-assoc packs es (numBytes 4 (length es)) in
+    wrote-then head (record { ends = ap (λ (k : ℕ). i + k) (long ∙ ap length same); list = whole .list ∙ ap (λ (f : List ℕ). sets l i f) same })
 
 -- ---- the estimate, from what the blocks of the values as they stand take
 

@@ -201,24 +201,23 @@ fn part_write(
     )
 }
 
-// Writes all blocks' residuals from `start` on and all entries from `mid` on, behind the residuals; returns the end. Each block is
-// trained once, and its bytes go to both places at once.
+// Writes all blocks' residuals at the front of the output behind the head, and all entries from `mid` on, behind the residuals;
+// returns the end. Each block is trained once, and its bytes go to both places at once.
 fn write_blocks(
     kind: Kind,
     values: &[u64],
     minimum: u64,
     gcd: u64,
     out: &mut [u8],
-    start: usize,
     mid: usize,
 ) -> usize
     requires { ⌜ Above minimum gcd (storedAs kind (now values)) ⌝ }
-    requires { ⌜ mid ≡ start + length (areas (normals minimum gcd (storedAs kind (now values)))) ⌝ }
+    requires { ⌜ mid ≡ length (areas (normals minimum gcd (storedAs kind (now values)))) ⌝ }
     requires { ⌜ mid + length (entries (normals minimum gcd (storedAs kind (now values)))) ≤ length (now out) ⌝ }
-    ensures { λ r. ⌜ Wrote (now (out .entry)) start (areas (normals minimum gcd (storedAs kind (now (values .entry)))) ++ entries (normals minimum gcd (storedAs kind (now (values .entry))))) (now (out .exit)) r ⌝ }
+    ensures { λ r. ⌜ Wrote (now (out .entry)) 0 (areas (normals minimum gcd (storedAs kind (now (values .entry)))) ++ entries (normals minimum gcd (storedAs kind (now (values .entry))))) (now (out .exit)) r ⌝ }
 {
     let rows = values.len();
-    let mut area = start;
+    let mut area: usize = 0;
     let mut footer = mid;
     let mut at: usize = 0;
     while at < rows {
@@ -241,6 +240,26 @@ fn put_four(out: &mut [u8], at: usize, n: u32) -> usize
     out[at + 2] = (n / 0x1_0000 % 0x100) as u8;
     out[at + 3] = (n / 0x100_0000 % 0x100) as u8;
     at + 4
+}
+
+// Writes what stands behind the head, into the output there: all blocks' residuals, the footer, and its length in four bytes.
+// Returns how many bytes they are.
+fn write_rest(
+    kind: Kind,
+    values: &[u64],
+    minimum: u64,
+    gcd: u64,
+    sizes: Sizes,
+    out: &mut [u8],
+) -> usize
+    requires { ⌜ Above minimum gcd (storedAs kind (now values)) ⌝ }
+    requires { ⌜ Takes (normals minimum gcd (storedAs kind (now values))) sizes ⌝ }
+    requires { ⌜ sizes .footer < 2 ^ 32 ⌝ }
+    requires { ⌜ sizes .area + sizes .footer + 4 ≤ length (now out) ⌝ }
+    ensures { λ r. ⌜ Wrote (now (out .entry)) 0 ((areas (normals minimum gcd (storedAs kind (now (values .entry)))) ++ entries (normals minimum gcd (storedAs kind (now (values .entry))))) ++ numBytes 4 (sizes .footer)) (now (out .exit)) r ⌝ }
+{
+    let end = write_blocks(kind, values, minimum, gcd, out, sizes.area);
+    put_four(out, end, sizes.footer as u32)
 }
 
 // Internal: asks for statistics that a head can be made of, and for sizes that fewer than 2^32 values can have. The length of a body
@@ -281,7 +300,13 @@ pub fn serialize(
     ensures { λ r. ⌜ Wrote (now (out .entry)) at (blockwise stats (storedAs kind (now (values .entry)))) (now (out .exit)) r ⌝ }
 {
     let start = stats::head_write(out, at, stats);
-    let mid = start + sizes.area;
-    let end = write_blocks(kind, values, stats.minimum, stats.gcd, out, start, mid);
-    put_four(out, end, sizes.footer as u32)
+    let behind = write_rest(
+        kind,
+        values,
+        stats.minimum,
+        stats.gcd,
+        sizes,
+        &mut out[start..],
+    );
+    start + behind
 }

@@ -40,7 +40,8 @@ fn narrowed(own: Own, window: Window) -> Own
     }
 }
 
-// Internal: asks for two columns, each opened of its bytes, and for a buffer that has room for the longest line. Writes their comparison, a bufferful at a time, until a write fails.
+// Internal: asks for two columns, each opened of its bytes, and for a buffer that has room for the longest line. Writes their comparison, a
+// bufferful at a time, until a write fails.
 fn write_rows(own: Own, left: &[u8], its: Own, right: &[u8], out: &mut [u8])
     requires { ⌜ Owned (now left) (own .column) (own .pass) ⌝ }
     requires { ⌜ Owned (now right) (its .column) (its .pass) ⌝ }

@@ -6,7 +6,8 @@ use libc::STDOUT_FILENO;
 use text_list::way;
 use tool_files::cases::length_at;
 
-// Internal: asks for a buffer that has room for the longest line, so that each turn is handed some text. Writes the listing of some bytes, a bufferful at a time, until a write fails.
+// Internal: asks for a buffer that has room for the longest line, so that each turn is handed some text. Writes the listing of some bytes,
+// a bufferful at a time, until a write fails.
 fn write_listing(bytes: &[u8], out: &mut [u8])
     requires { ⌜ handMax ≤ length (now out) ⌝ }
 {

@@ -3,6 +3,7 @@
 --     Onward                         what is left is the chunk, and then what is left behind it
 --     handed-nothing, handed-by      too little room; room enough
 --     handed-on                      the way behind a chunk
+--     handed-determined              two answers that a contract allows coincide
 --     Goes, all-handed               where each chunk shortens the way, all chunks are the text
 -- Assumes nothing.
 use Prim.Native.Nat.{ℕ, zero, suc, _+_, _-_, _≤_, _<_}
@@ -60,6 +61,11 @@ module _ {W : Type 0} (k : Walk W) {w : W} {old : List ℕ} where
   -- the way behind a chunk, in room enough
   pub handed-on : {next : W} {bytes : ℕ} {new : List ℕ} → k .most ≤ length old → HandedAs k w bytes next old new → next ≡ k .behind w (length old)
   handed-on free h = h .way ∙ rw (le-ltb (length old) (k .most) free)
+
+-- a chunk, its length, the way behind it and the buffer afterwards are determined
+pub handed-determined : {W : Type 0} {k : Walk W} {w next next′ : W} {bytes bytes′ : ℕ} {old new new′ : List ℕ} → HandedAs k w bytes next old new → HandedAs k w bytes′ next′ old new′
+    → (bytes ≡ bytes′) × (next ≡ next′) × (new ≡ new′)
+handed-determined p q = (p .long ∙ sym (q .long), p .way ∙ sym (q .way), p .text ∙ sym (q .text))
 
 -- what a way does in some room: it goes on, and becomes shorter until nothing is left
 pub record Goes {W : Type 0} (k : Walk W) (room : ℕ) : Type 0 where

@@ -1,4 +1,5 @@
--- The way through a text, from chunk to chunk, over any value that says where the way stands: what one call hands out, and what call after call does.
+-- The way through a text, from chunk to chunk, over any value that says where the way stands: what one call hands out, and what call after
+-- call does.
 -- Assumes nothing.
 use Prim.Native.Nat.{ℕ, zero, suc}
 use mathlib.Core.Path.{_≡_}
@@ -9,7 +10,8 @@ use lib.Seq.{sets}
 use Rattle.io.specs.Counts.{Counts}
 use Rattle.format.specs.Outcome.{pick}
 
--- a text's way: the room that a chunk asks for, what is still to be written, the chunk that comes next in so much room, the way behind it, and which ways there are
+-- a text's way: the room that a chunk asks for, what is still to be written, the chunk that comes next in so much room, the way behind it,
+-- and which ways there are
 pub record Walk (W : Type 0) : Type 1 where
   pub most : ℕ
   pub rest : W → List ℕ

@@ -1,4 +1,5 @@
-// The way through an explanation: a value that says what is still to be written, and hands it out chunk by chunk. A program begins, and writes what it is handed while there is more.
+// The way through an explanation: a value that says what is still to be written, and hands it out chunk by chunk. A program begins, and
+// writes what it is handed while there is more.
 ghost use mathlib.Core.Path.{_≡_};
 ghost use Prim.Native.Nat.{_≤_};
 ghost use lib.ListN.{length};
@@ -96,7 +97,8 @@ fn hand_parts(column: Column, bytes: &[u8], from: usize, out: &mut [u8]) -> Hand
     }
 }
 
-// Writes the next chunk at the start of a buffer; nothing, where that has no room for the longest line. What a way has left is the chunk and then what the way behind it has left.
+// Writes the next chunk at the start of a buffer; nothing, where that has no room for the longest line. What a way has left is the chunk
+// and then what the way behind it has left.
 pub fn fill(way: Way, bytes: &[u8], out: &mut [u8]) -> Handed
     ensures { λ r. ⌜ HandedAs (explanationWalk (now (bytes .entry))) way (r .bytes) (r .way) (now (out .entry)) (now (out .exit)) ⌝ }
 {

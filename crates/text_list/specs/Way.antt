@@ -1,4 +1,5 @@
--- The way through a listing, from chunk to chunk (text/specs/Way): what is still to be written, what is handed out next, and the way behind it.
+-- The way through a listing, from chunk to chunk (text/specs/Way): what is still to be written, what is handed out next, and the way behind
+-- it.
 -- Assumes nothing.
 use Prim.Native.Nat.{ℕ, _+_, _-_, _≤_}
 use mathlib.Core.Bool.{Bool, true, false}

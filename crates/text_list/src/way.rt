@@ -1,4 +1,5 @@
-// The way through a listing: a value that says what is still to be written, and hands it out chunk by chunk. A program begins, and writes what it is handed while there is more.
+// The way through a listing: a value that says what is still to be written, and hands it out chunk by chunk. A program begins, and writes
+// what it is handed while there is more.
 ghost use mathlib.Core.Path.{_≡_};
 ghost use Prim.Native.Nat.{_≤_};
 ghost use lib.ListN.{length};
@@ -112,8 +113,8 @@ fn hand_rows(own: Own, bytes: &[u8], from: WindowRow, out: &mut [u8]) -> Handed
     }
 }
 
-// Internal: asks for a way that `begin` or this call handed out for the same bytes. Writes the next chunk at the start of a buffer; nothing, where that has no room for the longest line. What a way
-// has left is the chunk and then what the way behind it has left.
+// Internal: asks for a way that `begin` or this call handed out for the same bytes. Writes the next chunk at the start of a buffer;
+// nothing, where that has no room for the longest line. What a way has left is the chunk and then what the way behind it has left.
 pub fn fill(way: Way, bytes: &[u8], out: &mut [u8]) -> Handed
     requires { ⌜ Stands (now bytes) way ⌝ }
     ensures { λ r. ⌜ HandedAs (listingWalk (now (bytes .entry))) way (r .bytes) (r .way) (now (out .entry)) (now (out .exit)) ⌝ }

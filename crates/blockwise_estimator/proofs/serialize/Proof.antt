@@ -1,15 +1,17 @@
--- `serialize` meets its contract: the parts are written one behind the other; a footer of at most 21 bytes for each of at most 2^23 blocks has a length of four bytes.
+-- `serialize` meets its contract: behind the head there is room for the rest, and a footer of at most 21 bytes for each of at most 2^23
+-- blocks has a length of four bytes.
 -- Assumes nothing.
-use denote.Ref.{now}
+use Prim.Native.Nat.{_+_, _≤_}
 use mathlib.Core.List.{map}
 use native.Mathlib.Omega.{arith}
-use lib.ListN.{length-append}
-use Rattle.format.specs.Bodies.{normalised}
-use Rattle.stats.proofs.Described.{sound-of, steps-length}
-use Rattle.format.specs.Typed.{storedAs}
-use Rattle.blockwise_estimator.specs.Writer.{areas, entries}
-use Rattle.blockwise_estimator.proofs.Body.{above-of, takes-few, body-length, wrote-body}
+use denote.Ref.{now}
 use borrow.Author.Needs.{needs}
+use lib.ListN.{length}
+use Rattle.format.specs.Bodies.{normalised}
+use Rattle.format.specs.Typed.{storedAs}
+use Rattle.format.proofs.Stores.{rest-room}
+use Rattle.stats.proofs.Described.{sound-of, steps-length}
+use Rattle.blockwise_estimator.proofs.Body.{above-of, takes-few, body-length, wrote-body}
 use Rattle.blockwise_estimator.proofs.serialize.Statement.{statement}
 use Rattle.blockwise_estimator.proofs.serialize.Tie as tie
 
@@ -17,47 +19,57 @@ head-write-requires : tie.Need-head-write-requires
 head-write-requires c κs = let start = c .before .before .before in
     (sound-of (start .pre .0), omega (arith, start .pre .1 .1, body-length (start .args .stats) (storedAs (start .args .kind) (now (start .args .values)))))
 
-add-mid : tie.Need-add-mid
-add-mid c = let headed = c .before .before .before in
-    let start = headed .before .before .before .before in
-    omega (arith, headed .head-write .ensures .ends, start .pre .1 .1, start .pre .1 .0 .packs, body-length (start .args .stats) (storedAs (start .args .kind) (now (start .args .values))))
+-- behind the head there is room for the rest
+room : (c : tie.After-head-write) → let a = c .before .before .before .before .args in c .head-write .result + (a .sizes .area + a .sizes .footer + 4) ≤ length (now (a .out))
+room c =
+    let start = c .before .before .before .before in
+    let takes = start .pre .1 .0 in
+    omega (arith, c .head-write .ensures .ends, start .pre .1 .1, takes .packs, takes .fields, body-length (start .args .stats) (storedAs (start .args .kind) (now (start .args .values))))
 
-write-blocks-requires : tie.Need-write-blocks-requires
-write-blocks-requires c κs = let headed = c .before .before .before .before in
-    let start = headed .before .before .before .before in
-    let long = body-length (start .args .stats) (storedAs (start .args .kind) (now (start .args .values))) in
-    (above-of (start .pre .0), (omega (arith, start .pre .1 .0 .packs), omega (arith, headed .head-write .ensures .ends, start .pre .1 .1, start .pre .1 .0 .packs, headed .head-write .kept .0)))
+sub-write-rest : tie.Need-sub-write-rest
+sub-write-rest c = let headed = c .before .before in omega (arith, room headed, headed .head-write .kept .0)
 
-cast-put-four : tie.Need-cast-put-four
-cast-put-four c = let start = c .before .before .before .before .before .before .before .before .before .before .before .before .before in
-    omega (arith, takes-few (map (normalised (start .args .stats)) (storedAs (start .args .kind) (now (start .args .values)))) _ (steps-length (start .pre .0)) (start .pre .0 .few) (start .pre .1 .0) .fields)
+part-write-rest-start : tie.Need-part-write-rest-start
+part-write-rest-start c = let headed = c .before .before in omega (arith, room headed, headed .head-write .kept .0)
 
-put-four-requires : tie.Need-put-four-requires
-put-four-requires c κs = let put = c .before .before .before .before in
-    let headed = put .before .before .before .before .before in
+part-write-rest-end : tie.Need-part-write-rest-end
+part-write-rest-end c = search needs
+
+write-rest-requires : tie.Need-write-rest-requires
+write-rest-requires c κs =
+    let headed = c .before .before .before in
     let start = headed .before .before .before .before in
-    let xs = map (normalised (start .args .stats)) (storedAs (start .args .kind) (now (start .args .values))) in
-    let long = body-length (start .args .stats) (storedAs (start .args .kind) (now (start .args .values))) in
-    omega (arith, put .write-blocks .ensures .ends, length-append (areas xs) (entries xs), headed .head-write .ensures .ends, start .pre .1 .1, headed .head-write .kept .0, put .write-blocks .kept .1 .1 .1 .1 .0)
+    let few = takes-few (map (normalised (start .args .stats)) (storedAs (start .args .kind) (now (start .args .values)))) _ (steps-length (start .pre .0)) (start .pre .0 .few) (start .pre .1 .0) in
+    (above-of (start .pre .0), (start .pre .1 .0, (omega (arith, few .fields), rest-room (headed .head-write .last .0) (now (start .args .out)) _ (headed .head-write .kept .0) (room headed))))
+
+add-result : tie.Need-add-result
+add-result c =
+    let written = c .before .before in
+    let headed = written .before .before .before .before in
+    let start = headed .before .before .before .before in
+    let body =
+    wrote-body (start .args .stats) (storedAs (start .args .kind) (now (start .args .values))) (start .args .sizes .footer) (headed .head-write .ensures) (headed .head-write .kept .0) (start .pre .1 .1) (start .pre .1 .0 .fields) (written .write-rest .ensures) in
+    omega (arith, body .ends, start .pre .1 .1)
 
 same-length : tie.Need-same-length
 same-length c = search needs
 
 returns : tie.Need-returns
-returns c = let last = c .before .before in
-    let put = last .before .before .before .before .before in
-    let headed = put .before .before .before .before .before in
+returns c =
+    let written = c .before .before in
+    let headed = written .before .before .before .before in
     let start = headed .before .before .before .before in
-    wrote-body (start .args .stats) (storedAs (start .args .kind) (now (start .args .values))) (headed .head-write .ensures) (put .write-blocks .ensures) (start .args .sizes .footer) (start .pre .1 .0 .fields) (last .put-four .ensures)
+    wrote-body (start .args .stats) (storedAs (start .args .kind) (now (start .args .values))) (start .args .sizes .footer) (headed .head-write .ensures) (headed .head-write .kept .0) (start .pre .1 .1) (start .pre .1 .0 .fields) (written .write-rest .ensures)
 
 pub serialize-spec : {M : Type 1} → statement M
 serialize-spec =
     tie.close
     (tie.spec
     head-write-requires
-    add-mid
-    write-blocks-requires
-    cast-put-four
-    put-four-requires
+    sub-write-rest
+    part-write-rest-start
+    part-write-rest-end
+    write-rest-requires
+    add-result
     same-length
     returns)

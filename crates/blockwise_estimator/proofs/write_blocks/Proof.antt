@@ -1,7 +1,8 @@
 -- `write_blocks` meets its contract: what was written at the two frontiers, with the areas and entries to come stored behind them, is all areas and all entries.
 -- Assumes nothing.
 use Prim.Native.Nat.{_-_}
-use mathlib.Core.Path.{_∙_}
+use mathlib.Core.Path.{sym, _∙_}
+use native.Mathlib.Nat.{zero-add}
 use native.Mathlib.Omega.{arith}
 use denote.Ref.{now}
 use lib.ListN.{length-map}
@@ -14,15 +15,15 @@ use Rattle.blockwise_estimator.proofs.write_blocks.Statement.{statement
 use Rattle.blockwise_estimator.proofs.write_blocks.Tie as tie
 
 abbrev Inv-loop : tie.InvT-loop
-Inv-loop kind values minimum gcd out₀ start mid rows area₀ footer₀ at₀ out area footer at = Placing (normals minimum gcd (storedAs kind values)) rows out₀ start mid out area footer at
+Inv-loop kind values minimum gcd out₀ mid rows area₀ footer₀ at₀ out area footer at = Placing (normals minimum gcd (storedAs kind values)) rows out₀ 0 mid out area footer at
 
 abbrev μ-loop : tie.MeasureT-loop
-μ-loop kind values minimum gcd out₀ start mid rows area₀ footer₀ at₀ out area footer at = rows - at
+μ-loop kind values minimum gcd out₀ mid rows area₀ footer₀ at₀ out area footer at = rows - at
 
 loop-holds : tie.Need-loop-holds Inv-loop μ-loop
 loop-holds c = let a = c .before .before .args in
     let xs = storedAs (a .kind) (now (a .values)) in
-    placing-starts (normals (a .minimum) (a .gcd) xs) _ (now (a .out)) (a .start) (a .mid) (length-map xs (normal (a .minimum) (a .gcd)) ∙ stored-length (a .kind) (now (a .values))) (c .before .before .pre .1 .0)
+    placing-starts (normals (a .minimum) (a .gcd) xs) _ (now (a .out)) 0 (a .mid) (length-map xs (normal (a .minimum) (a .gcd)) ∙ stored-length (a .kind) (now (a .values))) (c .before .before .pre .1 .0 ∙ sym (zero-add _))
 
 sub-part-size : tie.Need-sub-part-size Inv-loop μ-loop
 sub-part-size c = search needs
@@ -48,7 +49,7 @@ same-length : tie.Need-same-length Inv-loop μ-loop
 same-length c = c .before .loop .inv .kept
 
 returns : tie.Need-returns Inv-loop μ-loop
-returns c = placing-ends (c .before .loop .inv) (search needs) (c .before .before .before .before .pre .1 .0)
+returns c = placing-ends (c .before .loop .inv) (search needs) (c .before .before .before .before .pre .1 .0 ∙ sym (zero-add _))
 
 pub write-blocks-spec : {M : Type 1} → statement M
 write-blocks-spec =
