@@ -9,8 +9,8 @@
 --     comparison-handed, windows-handed           all chunks together are the comparison; that of two windows
 -- Assumes nothing.
 use Prim.Native.Nat.{ℕ, _+_, _-_, _^_, _≤_, _<_, max}
-use mathlib.Core.Path.{_≡_, refl, sym, ap, _∙_, subst}
-use mathlib.Core.Bool.{Bool, true, false}
+use mathlib.Core.Path.{_≡_, refl, sym, ap, _∙_}
+use mathlib.Core.Bool.{Bool, true}
 use mathlib.Core.Logic.{⊎-elim}
 use mathlib.Core.List.{List, [], _++_, append-assoc, append-nil}
 use native.Mathlib.Nat.{zero-add}
@@ -19,7 +19,6 @@ use borrow.Author.Tests.{lt-ltb, le-ltb}
 use lib.ListN.{length, take}
 use lib.Seq.{sets, length-sets}
 use Rattle.io.specs.Counts.{Counts}
-use Rattle.format.specs.declared.Column.{Column}
 use Rattle.format.specs.Comparing.{differing, compared, comparison}
 use Rattle.format.specs.Listing.{ascii, namedLine, rowTexts, openedHere}
 use Rattle.format.specs.Opening.{Loaded}
@@ -41,7 +40,7 @@ use Rattle.text_compare.specs.declared.way.Way.the-variants.{Open, Rows,
 use Rattle.text_compare.specs.Beginning.{onlyLine, begun, lineLength, BegunAs}
 use Rattle.text_compare.specs.Chunk.{pairMax, textOf, pairRows, pairChunk, comparedIn}
 use Rattle.text_compare.specs.Through.{comparedThrough}
-use Rattle.text_compare.specs.Way.{handMax, leftOf, rightOf, rowsOf, atFirst, atNext, restOf, rest, isMore, Stands, behind, wayOf, comparisonWalk}
+use Rattle.text_compare.specs.Way.{handMax, leftOf, rightOf, rowsOf, atFirst, atNext, rest, isMore, Stands, behind, wayOf, comparisonWalk}
 use Rattle.text_compare.proofs.Differing.{count-none, count-split, count-most, pair-texts}
 use Rattle.text_compare.proofs.Filling.{paired}
 
