@@ -2,8 +2,6 @@
 """Checking a column against a list of values, by the model alone.
 
     tools/answers/checks.py SHEET COLUMN VALUES                        what `./run check` has to print of a sheet and two files
-    tools/answers/checks.py cases > crates/test_check/data/cases     the cases that `test_check` reads
-    tools/answers/checks.py stdout > crates/test_check/stdout        what it has to print
     tools/answers/checks.py example DIR                                a column and its values, as files
     tools/answers/checks.py                                            asks the cases in crates/format/proofs/CheckCases.antt again
 
@@ -151,20 +149,6 @@ def program_cases():
     ]
 
 
-def words(*parts):
-    return b"".join(len(part).to_bytes(4, "little") for part in parts)
-
-
-def file():
-    """The cases as `test_check` reads them: four lengths, then title, sheet, column and values."""
-    parts = [(title.encode() + b"\n", *rest) for title, *rest in program_cases()]
-    return b"".join(words(*part) + b"".join(part) for part in parts)
-
-
-def stdout():
-    return "".join(f"{title}\n{judgement(*rest)}" for title, *rest in program_cases())
-
-
 def example(folder):
     """The program's own case."""
     with open(f"{folder}/column", "wb") as f:
@@ -214,10 +198,6 @@ if __name__ == "__main__":
     match sys.argv[1:]:
         case []:
             ask_again()
-        case ["cases"]:
-            sys.stdout.buffer.write(file())
-        case ["stdout"]:
-            sys.stdout.write(stdout())
         case ["example", folder]:
             example(folder)
         case [sheet, column, values]:

@@ -1,9 +1,7 @@
 #!/usr/bin/env python3
-"""Replaying recorded lookups, by the model: what a recording is, what a replay reports, and the cases of `test_replay`.
+"""Replaying recorded lookups, by the model: what a recording is, what a replay reports, and cases for `texts.py`.
 
     tools/answers/replays.py COLUMN RECORDING                        what `replay` has to print of two files
-    tools/answers/replays.py cases > crates/test_replay/data/cases      the cases that it reads
-    tools/answers/replays.py stdout > crates/test_replay/stdout         what it has to print
     tools/answers/replays.py example DIR                             a column and a recording that agrees, as files
 """
 
@@ -159,20 +157,6 @@ def cases():
     ]
 
 
-def file():
-    """The cases as `test_replay` reads them: three lengths, then title, column and recording."""
-    parts = []
-    for _, items in cases():
-        for title, column, recording in items:
-            line = title.encode() + b"\n"
-            parts.append(words(len(line), len(column), len(recording)) + line + column + recording)
-    return b"".join(parts)
-
-
-def stdout():
-    return "".join(f"{title}\n{report(column, recording)}" for _, items in cases() for title, column, recording in items)
-
-
 def example(folder):
     """The column of `docs/example.column`'s kind and what was recorded of it: written for README and the program's own case."""
     with open(f"{folder}/column", "wb") as f:
@@ -183,10 +167,6 @@ def example(folder):
 
 if __name__ == "__main__":
     match sys.argv[1:]:
-        case ["cases"]:
-            sys.stdout.buffer.write(file())
-        case ["stdout"]:
-            sys.stdout.write(stdout())
         case ["example", folder]:
             example(folder)
         case [column, recording]:

@@ -1,13 +1,4 @@
-#!/usr/bin/env python3
-"""The cases of `test_compare` and `test_list`: the files that they read, and what they have to print, by the model alone.
-
-    tools/answers/shown.py compare cases > crates/test_compare/data/cases
-    tools/answers/shown.py compare stdout > crates/test_compare/stdout
-    tools/answers/shown.py listing cases > crates/test_list/data/cases
-    tools/answers/shown.py listing stdout > crates/test_list/stdout
-"""
-
-import sys
+"""Columns that are listed, and pairs of columns that are compared, for `texts.py`."""
 
 import model
 
@@ -125,11 +116,6 @@ def compare():
     yield from windows()
 
 
-def listing():
-    """A title, a column, and no window."""
-    yield from [(title, [column], ()) for title, column in columns()]
-
-
 def columns():
     """A title, and a column."""
     yield from [
@@ -144,25 +130,3 @@ def columns():
         ("Blockwise, two blocks: the tens to 5120", BLOCKS),
     ]
     yield from REFUSED + [TOO_MANY_BYTES]
-
-
-def file(cases):
-    """The cases as the programs read them: the lengths of title and columns, the windows' numbers, then title and columns."""
-    parts = []
-    for title, columns, windows in cases:
-        items = [title.encode() + b"\n", *columns]
-        numbers = [len(item) for item in items] + [number for window in windows for number in window]
-        parts += [number.to_bytes(4, "little") for number in numbers] + items
-    return b"".join(parts)
-
-
-def stdout(cases, report):
-    return "".join(f"{title}\n{report(*columns, *windows)}" for title, columns, windows in cases)
-
-
-if __name__ == "__main__":
-    cases, report = {"compare": (compare, model.comparison), "listing": (listing, model.listing)}[sys.argv[1]]
-    if sys.argv[2] == "cases":
-        sys.stdout.buffer.write(file(cases()))
-    else:
-        sys.stdout.write(stdout(cases(), report))

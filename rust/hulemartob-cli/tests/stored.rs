@@ -20,93 +20,80 @@ fn crates(name: &str) -> PathBuf {
 #[test]
 fn programs() {
     for (name, arguments) in [
-        ("list", &["list", "stdin"][..]),
-        ("explain", &["explain", "stdin"]),
-        ("compare", &["compare", "data/left", "data/right"]),
-        ("blame", &["blame", "data/left", "data/right"]),
-        ("replay", &["replay", "data/column", "data/recording"]),
-        ("checks", &["check", "--sheet", "2", "data/column", "data/values"]),
+        ("tool_list", &["list", "stdin"][..]),
+        ("tool_explain", &["explain", "stdin"]),
+        ("tool_compare", &["compare", "data/left", "data/right"]),
+        ("tool_blame", &["blame", "data/left", "data/right"]),
+        ("tool_replay", &["replay", "data/column", "data/recording"]),
+        ("tool_check", &["check", "--sheet", "2", "data/column", "data/values"]),
     ] {
         let stored = fs::read_to_string(crates(name).join("stdout")).unwrap();
         assert_eq!(out(&crates(name), arguments), stored, "{name}");
     }
 }
 
-/// The cases of a crate: of each so many numbers, and so many pieces whose lengths the first of them are. The first piece is a title.
-fn cases(name: &str, numbers: usize, pieces: usize) -> Vec<(Vec<u32>, Vec<Vec<u8>>)> {
-    let file = fs::read(crates(name).join("data/cases")).unwrap();
+/// A case of `test_text`: the program that it is of, its title, and three pieces.
+struct Case {
+    word: u32,
+    title: String,
+    pieces: [Vec<u8>; 3],
+}
+
+/// The stored cases, each a word, the lengths of its title and of three pieces, and then these.
+fn cases() -> Vec<Case> {
+    let file = fs::read(crates("test_text").join("data/cases")).unwrap();
     let mut rest = &file[..];
     let mut cases = Vec::new();
-    while !rest.is_empty() {
-        let (head, tail) = rest.split_at(4 * numbers);
+    while let Some((head, tail)) = rest.split_first_chunk::<20>() {
         let head: Vec<u32> = head.as_chunks().0.iter().map(|&number| u32::from_le_bytes(number)).collect();
         rest = tail;
-        let mut piece = |length: &u32| {
-            let (piece, tail) = rest.split_at(*length as usize);
+        let mut piece = |place: usize| {
+            let (piece, tail) = rest.split_at(head[place] as usize);
             rest = tail;
             piece.to_vec()
         };
-        let pieces = head[..pieces].iter().map(&mut piece).collect();
-        cases.push((head, pieces));
+        let title = String::from_utf8(piece(1)).unwrap();
+        cases.push(Case { word: head[0], title, pieces: [piece(2), piece(3), piece(4)] });
     }
-    assert!(10 < cases.len());
     cases
 }
 
-/// Holds a crate's stored text, by its titles, against what the command prints for the pieces behind them. A case that is not for the command is left out, and so is
-/// one that a program refuses by its own limit, 16.
-fn hold(name: &str, numbers: usize, pieces: usize, arguments: impl Fn(&[u32], &[Vec<u8>]) -> Option<Vec<String>>) {
-    let folder = Path::new(env!("CARGO_TARGET_TMPDIR")).join(format!("stored-{name}"));
-    fs::create_dir_all(&folder).unwrap();
-    let stored = fs::read_to_string(crates(name).join("stdout")).unwrap();
-    let cases = cases(name, numbers, pieces);
-    let (mut rest, mut held) = (&stored[..], 0);
-    for (place, (head, pieces)) in cases.iter().enumerate() {
-        let title = std::str::from_utf8(&pieces[0]).unwrap();
-        rest = rest.strip_prefix(title).unwrap_or_else(|| panic!("{name}: {title}"));
-        let next = cases.get(place + 1).map(|(_, pieces)| std::str::from_utf8(&pieces[0]).unwrap());
-        // A title stands at the start of a line.
-        let end = next.map_or(rest.len(), |next| rest.find(&format!("\n{next}")).expect(next) + 1);
-        let text;
-        (text, rest) = rest.split_at(end);
-        let Some(arguments) = arguments(head, &pieces[1..]).filter(|_| !text.ends_with("refused 16\n")) else { continue };
-        for (piece, name) in pieces[1..].iter().zip(["a", "b", "c"]) {
-            fs::write(folder.join(name), piece).unwrap();
-        }
-        let arguments: Vec<&str> = arguments.iter().map(String::as_str).collect();
-        assert_eq!(out(&folder, &arguments), text, "{name}: {title}");
-        held += 1;
-    }
-    assert!(cases.len() < 2 * held, "{name}: {held} of {} held", cases.len());
-    fs::remove_dir_all(folder).unwrap();
-}
-
-fn words(line: &str) -> Option<Vec<String>> {
-    Some(line.split(' ').map(str::to_owned).collect())
-}
-
-#[test]
-fn listed() {
-    hold("test_list", 2, 2, |_, _| words("list a"));
-}
-
-/// Those that look through a window at less than all rows are left out.
-#[test]
-fn compared() {
-    hold("test_compare", 7, 3, |head, _| words("compare a b").filter(|_| head[3..] == [0, u32::MAX, 0, u32::MAX]));
-}
-
-#[test]
-fn checked() {
-    hold("test_check", 4, 4, |_, pieces| match &pieces[0][..] {
-        b"1" => words("check --sheet 1 b c"),
-        b"2" => words("check --sheet 2 b c"),
+/// What the command is asked of a case, whose pieces are files: nothing, if it does not take that.
+fn asked(case: &Case) -> Option<&'static str> {
+    let whole = [0, u32::MAX, 0, u32::MAX].map(u32::to_le_bytes).concat();
+    match (case.word, &case.pieces[0][..]) {
+        (0, _) => Some("list a"),
+        // Those that look through a window at less than all rows are left out.
+        (1, _) => (case.pieces[2] == whole).then_some("compare a b"),
+        (2, _) => Some("replay a b"),
+        (3, b"1") => Some("check --sheet 1 b c"),
+        (3, b"2") => Some("check --sheet 2 b c"),
         // No sheet: the command does not take it.
         _ => None,
-    });
+    }
 }
 
+/// Holds the stored text, by its titles, against what the command prints for the pieces behind them. What a program refuses by its own limit, 16, is left out.
 #[test]
-fn replayed() {
-    hold("test_replay", 3, 3, |_, _| words("replay a b"));
+fn stored_cases() {
+    let folder = Path::new(env!("CARGO_TARGET_TMPDIR")).join("stored");
+    fs::create_dir_all(&folder).unwrap();
+    let stored = fs::read_to_string(crates("test_text").join("stdout")).unwrap();
+    let cases = cases();
+    let (mut rest, mut held) = (&stored[..], [0; 4]);
+    for (place, case) in cases.iter().enumerate() {
+        rest = rest.strip_prefix(&case.title[..]).unwrap_or_else(|| panic!("{}", case.title));
+        // A title stands at the start of a line.
+        let end = cases.get(place + 1).map_or(rest.len(), |next| rest.find(&format!("\n{}", next.title)).expect(&next.title) + 1);
+        let text;
+        (text, rest) = rest.split_at(end);
+        let Some(line) = asked(case).filter(|_| !text.ends_with("refused 16\n")) else { continue };
+        for (piece, name) in case.pieces.iter().zip(["a", "b", "c"]) {
+            fs::write(folder.join(name), piece).unwrap();
+        }
+        assert_eq!(out(&folder, &line.split(' ').collect::<Vec<_>>()), text, "{}", case.title);
+        held[case.word as usize] += 1;
+    }
+    assert!(held.iter().all(|&many| 10 < many), "{held:?}");
+    fs::remove_dir_all(folder).unwrap();
 }
