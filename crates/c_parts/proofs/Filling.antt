@@ -18,7 +18,7 @@ use Rattle.byte_part.specs.declared.Walked.the-variants.{Part as At, Done}
 use Rattle.byte_part.specs.Names.{whichPart, blockOf}
 use Rattle.byte_part.specs.Walk.{walked}
 use Rattle.byte_part.proofs.Names.{nth-some}
-use Rattle.byte_part.proofs.Seeking.{all, Stored, walked-part, walked-done}
+use Rattle.byte_part.proofs.Seeking.{all, Found, walked-part, walked-done}
 use Rattle.c_numbers.specs.Explaining.{partNumbers}
 use Rattle.c_parts.specs.Listed.{partsAt, behind, partsNumbers, Fills}
 
@@ -29,7 +29,7 @@ take-none (suc k) e = ap (take (suc k)) e
 
 module _ (s : List ℕ) (col : Column) where
   -- a part that was found is the first of those from its place on
-  found-first : (c : Cursor) (p : Part) (next : Cursor) → Stored s col c p next → partsAt s col c ≡ p ∷ partsAt s col next
+  found-first : (c : Cursor) (p : Part) (next : Cursor) → Found s col c p next → partsAt s col c ≡ p ∷ partsAt s col next
   unfolding partsFrom
   found-first c p next f =
       ap (partsFrom s col (c .at)) (nth-some (all s col) (c .number) (f .name) (f .there) .1)

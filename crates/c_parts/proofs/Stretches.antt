@@ -3,7 +3,7 @@
 --     stretch-first       from the first place on they are all
 --     stretch-short       a list that is not filled is the last
 -- Assumes nothing.
-use Prim.Native.Nat.{ℕ, zero, suc, _/_, _<_}
+use Prim.Native.Nat.{ℕ, zero, suc, _+_, _/_, _<_}
 use mathlib.Core.Path.{_≡_, refl, sym, ap, _∙_}
 use mathlib.Core.List.{List, [], _∷_, _++_}
 use native.Mathlib.Omega.{arith}
@@ -12,7 +12,7 @@ use Rattle.format.specs.declared.Column.{Column}
 use Rattle.format.specs.declared.Part.{Part}
 use Rattle.format.specs.Parts.{partsOf}
 use Rattle.byte_part.specs.declared.Cursor.{Cursor}
-use Rattle.byte_part.specs.declared.Walked.{Stored}
+use Rattle.byte_part.specs.declared.Walked.{Walked}
 use Rattle.byte_part.specs.declared.Walked.the-variants.{Part as At, Done}
 use Rattle.byte_part.specs.Walk.{walked}
 use Rattle.c_parts.specs.Listed.{partsAt, behind, listed}
@@ -28,7 +28,7 @@ module _ (s : List ℕ) (col : Column) where
   taken zero c = refl
   taken (suc k) c = go (walked s col c) refl (λ (next : Cursor). taken k next)
     where
-      go : (w : Stored) → walked s col c ≡ w → ((next : Cursor) → joined next (take k (partsAt s col next)) ≡ partsAt s col next) → joined c (take (suc k) (partsAt s col c)) ≡ partsAt s col c
+      go : (w : Walked) → walked s col c ≡ w → ((next : Cursor) → joined next (take k (partsAt s col next)) ≡ partsAt s col next) → joined c (take (suc k) (partsAt s col c)) ≡ partsAt s col c
       go (At p next) e later =
           let rest = take k (partsAt s col next) in
           ap (λ (ps : List Part). joined c (take (suc k) ps)) (parts-more s col c p next e)
