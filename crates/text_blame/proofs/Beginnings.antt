@@ -1,6 +1,6 @@
 -- How a blame begins, from what both openings found and the line that was written.
 --     begun-only, begun-both      with the only line; with both columns
---     begun-opens                 those are columns that were opened of their bytes
+--     starts-opens                those are columns that were opened of their bytes
 --     starts-left, starts-right, starts-lengths, starts-field, starts-both         how it begins, by the tests
 -- Assumes nothing.
 use Prim.Native.Nat.{ℕ}
@@ -25,7 +25,7 @@ use Rattle.text_blame_bytes.specs.declared.fields.Field.{Field}
 use Rattle.text_blame_bytes.specs.declared.fields.Field.the-variants.{At, Nothing}
 use Rattle.text_blame_bytes.specs.Fields.{firstField}
 use Rattle.text_blame_lines.specs.Bytes.{lengthsLine, fieldLine}
-use Rattle.text_blame.specs.Beginning.{Start, Start.both, Start.only, startsWith, starts, begun, BegunAs}
+use Rattle.text_blame.specs.Beginning.{Start, Start.both, Start.only, startsWith, starts, BegunAs}
 
 pub begun-only : {b : Start} {l old new : List ℕ} {n : ℕ} → b ≡ only l → Wrote old 0 l new n → Counts n new → BegunAs b (Line n) old new
 begun-only {b} {l} {old} {new} {n} is wrote shown =
@@ -36,15 +36,15 @@ pub begun-both : {b : Start} {c d : Column} {old : List ℕ} → b ≡ both c d 
 begun-both {b} {c} {d} {old} is = rw is (record { answer = refl; line = refl; counts = counts 0 old (omega arith) })
 
 -- the columns that it begins with
-pub begun-opens : {s t : List ℕ} {c d : Column} {old new : List ℕ} → BegunAs (starts (openedHere s) (openedHere t) s t) (Columns c d) old new → Opens s c × Opens t d
-begun-opens {s} {t} {c} {d} f = go (openedHere s) (openedHere t) refl refl (f .answer)
+pub starts-opens : (s t : List ℕ) (c d : Column) → starts (openedHere s) (openedHere t) s t ≡ both c d → Opens s c × Opens t d
+starts-opens s t c d = go (openedHere s) (openedHere t) refl refl
   where
-    by-test : (u w : Column) (b : Bool) (field : Field) (l : List ℕ) → Columns c d ≡ begun (pick b (startsWith u w field) (only l)) → (u ≡ c) × (w ≡ d)
+    by-test : (u w : Column) (b : Bool) (field : Field) (l : List ℕ) → pick b (startsWith u w field) (only l) ≡ both c d → (u ≡ c) × (w ≡ d)
     by-test u w true Nothing l e = (cc, cc)
     by-test u w true (At i name) l e = absurd (let z : _≡_ {A = ℕ} 0 1 = cc in omega arith)
     by-test u w false field l e = absurd (let z : _≡_ {A = ℕ} 0 1 = cc in omega arith)
 
-    go : (o p : Outcome Loaded) → openedHere s ≡ o → openedHere t ≡ p → Columns c d ≡ begun (starts o p s t) → Opens s c × Opens t d
+    go : (o p : Outcome Loaded) → openedHere s ≡ o → openedHere t ≡ p → starts o p s t ≡ both c d → Opens s c × Opens t d
     go (value u) (value w) e f is =
         let same = by-test (u .column) (w .column) (eqb (length s) (length t)) (firstField (partOf s (u .column)) s t 0 (length s)) (lengthsLine (length s) (length t)) is in
         (record { found = u; opened = e; column = same .0 }, record { found = w; opened = f; column = same .1 })

@@ -2,8 +2,9 @@
 
 -- how a blame begins
 pub mod Beginnings
+-- the way from chunk to chunk
+pub mod Ways
 -- what the calls come to
-pub mod Blames
 pub mod Listed
 pub mod Ascending
 pub mod Determined

@@ -2,6 +2,8 @@
 // bytes at a time as a lent buffer has room for; and how many bytes and rows there are. A side that does not open, unequal lengths and a field that
 // differs are a line of their own: then the bytes of the area do not tell which rows changed. No argument makes a call fail, and each contract says what
 // every lent entry holds afterwards.
+pub mod way;
+
 ghost use Rattle.format.specs.Listing.{openedHere};
 ghost use Rattle.text_column.specs.Own.{Opens};
 ghost use Rattle.text_blame.specs.Beginning.{starts, BegunAs};

@@ -1,85 +1,80 @@
--- `write_blame` is safe: the line's length that beginning answers lies inside the line.
+-- `write_blame` is safe and ends: it is handed a chunk at each turn, and each makes the way shorter.
 -- Assumes nothing.
-use Rattle.io.specs.Counts.{Counts}
-use borrow.Author.Needs.{needs}
-use Rattle.text_blame.proofs.Beginnings.{begun-opens}
+use Prim.Native.Nat.{_≤_}
+use mathlib.Core.Path.{_≡_, refl, sym, _∙_}
+use native.Mathlib.Omega.{arith}
+use lib.ListN.{length}
+use Rattle.text_blame.specs.Way.{handMax, Stands}
+use Rattle.text_blame.proofs.Ways.{left as leftOf, handed-less}
 use Rattle.tool_blame.proofs.write_blame.Statement.{statement}
 use Rattle.tool_blame.proofs.write_blame.Tie as tie
 
--- the only line is there
-only-line : (c : tie.After-n) → Counts (c .n .given .0 .0) (c .before .before .begin .last .1 .1 .0)
-only-line c = rw (c .n .given .1) at (c .before .before .begin .ensures .counts)
+abbrev Inv-loop : tie.InvT-loop
+Inv-loop left right out₀ at₀ out at = Stands left right at × (handMax ≤ length out) × (length out ≡ length out₀)
 
-begin-requires : tie.Need-begin-requires
-begin-requires c κs = search needs
+abbrev μ-loop : tie.MeasureT-loop
+μ-loop left right out₀ at₀ out at = leftOf left right at
 
-enum-known-n : tie.Need-enum-known-n
-enum-known-n c = search needs
+begin-requires : tie.Need-begin-requires Inv-loop μ-loop
+begin-requires c κs = tt
 
-array-share-prefix-line : tie.Need-array-share-prefix-line
-array-share-prefix-line c = only-line (c .before) .0
+loop-holds : tie.Need-loop-holds Inv-loop μ-loop
+loop-holds c = (rw (c .begin .ensures) tt, c .before .before .before .before .pre, refl)
 
-slice-aggregate-write-all : tie.Need-slice-aggregate-write-all
-slice-aggregate-write-all c = only-line (c .before .before) .1
+more-requires : tie.Need-more-requires Inv-loop μ-loop
+more-requires c κs = tt
 
-write-all-requires : tie.Need-write-all-requires
-write-all-requires c κs = search needs
+fill-requires : tie.Need-fill-requires Inv-loop μ-loop
+fill-requires c κs = c .before .before .before .loop .inv .0
 
-enum-known-column : tie.Need-enum-known-column
-enum-known-column c = search needs
+slice-reshare-prefix-write-all : tie.Need-slice-reshare-prefix-write-all Inv-loop μ-loop
+slice-reshare-prefix-write-all c = c .before .before .fill .ensures .counts .0
 
-large-buffer-requires : tie.Need-large-buffer-requires
-large-buffer-requires c κs = search needs
+slice-aggregate-write-all : tie.Need-slice-aggregate-write-all Inv-loop μ-loop
+slice-aggregate-write-all c = c .before .before .before .fill .ensures .counts .1
 
-slice-aggregate-write-bytes : tie.Need-slice-aggregate-write-bytes
-slice-aggregate-write-bytes c = search needs
+write-all-requires : tie.Need-write-all-requires Inv-loop μ-loop
+write-all-requires c κs = tt
 
-write-bytes-requires : tie.Need-write-bytes-requires
-write-bytes-requires c κs =
-    let o = c .before .before .before in
-    let both = begun-opens (rw (o .column .given .1) at (o .before .before .begin .ensures)) in
-    (both, search needs)
+same-length : tie.Need-same-length Inv-loop μ-loop
+same-length c = omega (arith, c .before .before .before .before .before .fill .kept)
 
-returns : tie.Need-returns
-returns c = search needs
+returns : tie.Need-returns Inv-loop μ-loop
+returns c = tt
 
-end-line-requires : tie.Need-end-line-requires
-end-line-requires c κs =
-    let o = c .before .before .before .before .before .before .before in
-    begun-opens (rw (o .column .given .1) at (o .before .before .begin .ensures)) .0
+loop-less : tie.Need-loop-less Inv-loop μ-loop
+loop-less c =
+    let f = c .before .before .before .before .before in
+    let more = f .before .before .before in
+    handed-less (more .before .loop .inv .1) (sym (more .more .ensures) ∙ f .before .before .if1 .taken) (f .fill .ensures)
 
-array-share-prefix-line-2 : tie.Need-array-share-prefix-line-2
-array-share-prefix-line-2 c = search needs
+loop-again : tie.Need-loop-again Inv-loop μ-loop
+loop-again c =
+    let f = c .before .before .before .before .before in
+    (f .fill .ensures .stands, omega (arith, f .fill .kept), omega (arith, f .fill .kept))
 
-slice-aggregate-write-all-2 : tie.Need-slice-aggregate-write-all-2
-slice-aggregate-write-all-2 c = search needs
+same-length-2 : tie.Need-same-length-2 Inv-loop μ-loop
+same-length-2 c = omega arith
 
-write-all-requires-2 : tie.Need-write-all-requires-2
-write-all-requires-2 c κs = search needs
-
-returns-2 : tie.Need-returns-2
-returns-2 c = search needs
-
-returns-3 : tie.Need-returns-3
-returns-3 c = search needs
+returns-2 : tie.Need-returns-2 Inv-loop μ-loop
+returns-2 c = tt
 
 pub write-blame-spec : {M : Type 1} → statement M
 write-blame-spec =
     tie.close
     (tie.spec
+    Inv-loop
+    μ-loop
     begin-requires
-    enum-known-n
-    array-share-prefix-line
+    loop-holds
+    more-requires
+    fill-requires
+    slice-reshare-prefix-write-all
     slice-aggregate-write-all
     write-all-requires
-    enum-known-column
-    large-buffer-requires
-    slice-aggregate-write-bytes
-    write-bytes-requires
+    same-length
     returns
-    end-line-requires
-    array-share-prefix-line-2
-    slice-aggregate-write-all-2
-    write-all-requires-2
-    returns-2
-    returns-3)
+    loop-less
+    loop-again
+    same-length-2
+    returns-2)
