@@ -78,7 +78,7 @@ returns-2 c =
     let a = s .args in (
       (λ table before o number f.
           ended (c .over .ensures .0) (c .over .ensures .1)
-          (is-refused (within (a .low) (a .high)) (rowAt (a .column) table (now (a .bytes))) (is-passing f (s .pre .0 .on)) (s .pre .3) _
+          (is-refused (within (a .low) (a .high)) (rowAt (a .column) table (now (a .bytes))) (is-passing f (s .pre .0 .on)) (s .pre .3) (t .why .given .0 .0)
           (sym (same-run (a .column) table (now (a .bytes)) (a .blocks) (a .block) _ _ (s .pre .4) number) ∙ swept-refused _ _ (w .sweep-rows .ensures) (t .why .given .1)))),
       falls-over _ (s .pre .0) (c .over .result) (c .over .ensures .0),
     )
