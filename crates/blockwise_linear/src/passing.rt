@@ -51,7 +51,7 @@ pub fn pass_to(bytes: &[u8], rows: u32, pass: Pass, k: usize) -> Pass
     requires { ⌜ Passing (now bytes) rows pass ⌝ }
     ensures { λ r. ⌜ r ≡ passed (now (bytes .entry)) rows (min (k + 1) (blockCount rows)) ⌝ }
 {
-    let blocks = (rows as usize + 511) / 512;
+    let blocks = format::block_count(rows);
     let end = if k < blocks { k + 1 } else { blocks };
     let mut p = pass;
     if end < p.count {

@@ -201,7 +201,7 @@ pub fn load(bytes: &[u8], head: Head, room: usize) -> Opened
     if !footer_fits(bytes, head.next) {
         return Opened::Refused(Refusal::AreaShort);
     }
-    let blocks = (head.rows as usize + 511) / 512;
+    let blocks = format::block_count(head.rows);
     if room < blocks {
         return Opened::Refused(Refusal::TableShort { blocks });
     }
@@ -257,7 +257,7 @@ pub fn footer_last(bytes: &[u8], rows: u32) -> LastRead
 {
     let end = footer_end(bytes);
     let start = first(bytes, rows).at;
-    let mut left = (rows as usize + 511) / 512;
+    let mut left = format::block_count(rows);
     let mut bits: u8 = 0;
     let mut at = start;
     while 0 < left {

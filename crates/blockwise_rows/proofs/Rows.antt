@@ -1,23 +1,17 @@
 -- A number read from the bytes from a block's start on is the row's of a Blockwise column.
---     none              a number of no bits is 0
---     start-inside      a block's numbers are read from within the bytes
+--     number-is         a number of the part from the block's start on is the row's
 --     row-is            the line plus the number, both at the row within the block, is the row's multiple
 --     multiples-read, heights-read      rows unpacked into a list: as multiples, and as heights above the minimum where the gcd is 1
 -- Assumes nothing.
 use Prim.Native.Nat.{ℕ, _+_, _-_, _*_, _%_, _^_, _≤_, _<_}
-use mathlib.Core.Path.{_≡_, refl, sym, ap, _∙_}
-use mathlib.Core.Bool.{Bool, true, false}
+use mathlib.Core.Path.{_≡_, sym, ap, _∙_}
 use mathlib.Core.Logic.{⊎-elim}
 use mathlib.Core.List.{List}
 use native.Mathlib.Omega.{arith}
-use lib.Dec.{eqb}
 use lib.ListN.{length, take, drop, getD}
-use borrow.Author.Tests.{eqb-true, eq-eqb}
 use borrow.Rule.Slice.PartAt.{part-to-end}
 use Rattle.format.specs.declared.Block.{Block}
-use Rattle.format.specs.declared.Codec.the-variants.{Blockwise}
 use Rattle.format.specs.declared.Column.{Column}
-use Rattle.format.specs.Outcome.{pick}
 use Rattle.format.specs.declared.Line.{Line}
 use Rattle.format.specs.Word.{modAdd, modSub}
 use Rattle.format.proofs.Words.{add-below}
@@ -30,36 +24,27 @@ use Rattle.format.specs.Reading.{placeIn, packedOf, scaled, valueIn, valueAt}
 use Rattle.blockwise_rows.specs.Reader.{Readable, numbersStart}
 
 -- a number of no bits is 0
-pub none : {w : ℕ} (s : List ℕ) (i : ℕ) → w ≡ 0 → 0 ≡ unpack w s i
+none : {w : ℕ} (s : List ℕ) (i : ℕ) → w ≡ 0 → 0 ≡ unpack w s i
 unfolding unpack numOf
 none s i e = rw e
 
 module _ (col : Column) (b : Block) (s : List ℕ) where
-  pub start-inside : Readable col b s → numbersStart col b ≤ length s
-  start-inside h = by-bits (eqb (b .bits) 0) refl
-    where
-      by-bits : (t : Bool) → eqb (b .bits) 0 ≡ t → pick t 0 (col .start + b .start) ≤ length s
-      by-bits true e = omega arith
-      by-bits false e =
-          ⊎-elim
-          (λ (no-bits : b .bits ≡ 0).
-          let z : false ≡ true = sym e ∙ eq-eqb _ _ no-bits in
-          let y : _≡_ {A = ℕ} 0 1 = cc in
-          absurd (omega arith))
-          (λ (inside : col .start + b .start ≤ length s). inside)
-          (h .start)
+  -- numbers of no bits are the same anywhere, and others have their place within the bytes
+  same-number : length s < 2 ^ 64 → Readable col b s → (i : ℕ) → unpack (b .bits) (drop (numbersStart col b (length s)) s) i ≡ unpack (b .bits) (drop (col .start + b .start) s) i
+  same-number short h i =
+      ⊎-elim
+      (λ (no-bits : b .bits ≡ 0). sym (none _ i no-bits) ∙ none _ i no-bits)
+      (λ (inside : col .start + b .start ≤ length s). let at : numbersStart col b (length s) ≡ col .start + b .start = omega arith in rw at)
+      (h .start)
 
-  same-number : (i : ℕ) → unpack (b .bits) (drop (numbersStart col b) s) i ≡ unpack (b .bits) (drop (col .start + b .start) s) i
-  same-number i = by-bits (eqb (b .bits) 0) refl
-    where
-      by-bits : (t : Bool) → eqb (b .bits) 0 ≡ t → unpack (b .bits) (drop (pick t 0 (col .start + b .start)) s) i ≡ unpack (b .bits) (drop (col .start + b .start) s) i
-      by-bits true e = let zero-bits = eqb-true (b .bits) 0 e in sym (none (drop 0 s) i zero-bits) ∙ none (drop (col .start + b .start) s) i zero-bits
-      by-bits false e = refl
+  pub number-is : length s < 2 ^ 64 → Readable col b s → (i : ℕ) {at : ℕ} → at ≡ numbersStart col b (length s)
+      → unpack (b .bits) (take (length s - at) (drop at s)) i ≡ unpack (b .bits) (drop (col .start + b .start) s) i
+  number-is short h i {at} start = rw (part-to-end s at, start, same-number short h i)
 
-  pub row-is : (r : ℕ) {at : ℕ} → col .codec ≡ Blockwise → at ≡ numbersStart col b
+  pub row-is : length s < 2 ^ 64 → Readable col b s → (r : ℕ) {at : ℕ} → at ≡ numbersStart col b (length s)
       → scaled col r (modAdd (lineAt (b .line) (r % 512)) (unpack (b .bits) (take (length s - at) (drop at s)) (r % 512))) ≡ valueAt col b s r
   unfolding valueIn packedOf placeIn
-  row-is r {at} codec start = rw (codec, part-to-end s at, start, same-number (r % 512))
+  row-is short h r start = rw (h .codec, number-is short h (r % 512) start)
 
 -- ---- rows unpacked into a list
 

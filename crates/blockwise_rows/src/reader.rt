@@ -1,7 +1,6 @@
 // Reading: a row of an opened column, and rows of one block. A row takes its block by value.
 ghost use mathlib.Core.Path.{_≡_};
 ghost use mathlib.Core.Bool.{true};
-ghost use mathlib.Core.Logic.{_⊎_};
 ghost use Prim.Native.Nat.{ℕ, _+_, _*_, _/_, _%_, _^_, _≤_, _<_};
 ghost use lib.ListN.{length, drop};
 ghost use Rattle.format.specs.Word.{modAdd};
@@ -34,15 +33,20 @@ pub fn split(row: ColumnRow) -> InBlock
     }
 }
 
-// The packed number of a row of a block. A block of no bits may start anywhere.
+// The byte where a block's numbers are read from, in so many bytes: their place behind the head. Only a block of no bits may have a place that is
+// not there, in a made-up table, where the sum may wrap; the end stands in for it, so that there is a part to hand on.
+fn numbers_start(column: Column, block: Block, len: usize) -> usize
+    ensures { λ r. ⌜ r ≡ numbersStart column block len ⌝ }
+{
+    word::lesser(word::add(column.start as u64, block.start), len as u64) as usize
+}
+
+// The packed number of a row of a block.
 fn residual(column: Column, block: Block, bytes: &[u8], row: BlockRow) -> u64
     requires { ⌜ Readable column block (now bytes) ⌝ }
     ensures { λ r. ⌜ r ≡ unpack (block .bits) (drop (column .start + block .start) (now (bytes .entry))) (row .0) ⌝ }
 {
-    if block.bits == 0 {
-        return 0;
-    }
-    let start = column.start + block.start as usize;
+    let start = numbers_start(column, block, bytes.len());
     bitpacker::get(&bytes[start..], block.bits as u8, row.0)
 }
 
@@ -55,17 +59,6 @@ pub fn get_val(column: Column, block: Block, bytes: &[u8], row: ColumnRow) -> Ro
     let number = residual(column, block, bytes, within);
     let multiple = word::add(line::eval(block.line, within.0 as u64), number);
     stats::scaled(column, row, multiple)
-}
-
-// The byte where a block's numbers are read from; those of no bits may be looked for anywhere.
-fn numbers_start(column: Column, block: Block) -> usize
-    requires { ⌜ (block .bits ≡ 0) ⊎ (column .start + block .start < 2 ^ 64) ⌝ }
-    ensures { λ r. ⌜ r ≡ numbersStart column block ⌝ }
-{
-    if block.bits == 0 {
-        return 0;
-    }
-    column.start + block.start as usize
 }
 
 // The rows of one block from `first` on, by the line of that block and the numbers that stand at a width in an area, each scaled, up to the first above the count.
@@ -95,7 +88,7 @@ pub fn get_range(
     requires { ⌜ first .0 % 512 + length (now out) ≤ 512 ⌝ }
     ensures { λ n. ⌜ filledTo n (first .0) (now (out .exit)) ≡ readRun (valueAt column block (now (bytes .entry))) (first .0) (length (now (out .entry))) ⌝ }
 {
-    let start = numbers_start(column, block);
+    let start = numbers_start(column, block, bytes.len());
     line_run(
         &bytes[start..],
         block.line,

@@ -1,7 +1,7 @@
 // Which parts a column has: the name of each by its number.
 ghost use mathlib.Core.Path.{_≡_};
-ghost use Prim.Native.Nat.{_+_, _/_};
 ghost use mathlib.Core.List.{[], _∷_, _++_};
+ghost use Rattle.format.specs.Bodies.{blockCount};
 ghost use Rattle.format.specs.Parts.{headNames, names, blockNames, shapeOf};
 ghost use Rattle.byte_part.specs.Names.{whichPart, blockOf};
 ghost use Rattle.byte_part.specs.Walk.{nth, nameIn, namesBehind};
@@ -161,11 +161,11 @@ fn blockwise_name(blocks: u32, number: usize) -> Name
     footer_name(blocks, number - 2)
 }
 
-// How many blocks so many rows have.
+// How many blocks so many rows have, as the names of parts count them.
 pub fn block_count(rows: u32) -> u32
-    ensures { λ r. ⌜ r ≡ (rows + 511) / 512 ⌝ }
+    ensures { λ r. ⌜ r ≡ blockCount rows ⌝ }
 {
-    ((rows as u64 + 511) / 512) as u32
+    format::block_count(rows) as u32
 }
 
 // Behind the head, by the codec.

@@ -93,14 +93,14 @@ module _ {s : List ℕ} {c : Column} {o : Loaded} (e : Owns s c o) where
         rw (← here, has, ← e .column) (pass-block s (e .room) o (e .found) (laid .head .few) r (rw (e .column) inside))
 
     -- a chunk with the block that a pass stands at is a chunk by the opening's own blocks
-    own-stretch : (r n : ℕ) {p : Pass} {a : Stretch} {old new : List ℕ} → c .rows ≡ n → p ≡ passed s rows (min (r / 512 + 1) (blockCount rows))
-        → StretchAs (rowIn c (blockCount rows) (p .block) s) r (chunkSize (columnRow c r) (c .window .rows - r)) a old new → StretchAs (rowAt c (o .table) s) r (chunkSize r (n - r)) a old new
-    own-stretch r n {p} long at chunk =
+    own-stretch : (r n : ℕ) {p : Pass} {blocks : ℕ} {a : Stretch} {old new : List ℕ} → c .rows ≡ n → p ≡ passed s rows (min (r / 512 + 1) (blockCount rows)) → blocks ≡ blockCount rows
+        → StretchAs (rowIn c blocks (p .block) s) r (chunkSize (columnRow c r) (c .window .rows - r)) a old new → StretchAs (rowAt c (o .table) s) r (chunkSize r (n - r)) a old new
+    own-stretch r n {p} {blocks} long at many chunk =
         let size : chunkSize (columnRow c r) (c .window .rows - r) ≡ chunkSize r (n - r) = omega (arith, first-row, all-rows, long) in
         stretch-for size
-        (stretch-by (rowIn c (blockCount rows) (p .block) s) (rowAt c (o .table) s) r (chunkSize (columnRow c r) (c .window .rows - r))
+        (stretch-by (rowIn c blocks (p .block) s) (rowAt c (o .table) s) r (chunkSize (columnRow c r) (c .window .rows - r))
         (λ x low high.
-        in-block c rows-few (o .table) s r (chunkSize (columnRow c r) (c .window .rows - r)) block-count
+        in-block c rows-few (o .table) s r (chunkSize (columnRow c r) (c .window .rows - r)) (many ∙ block-count)
         (ap (λ (q : Pass). q .block) at ∙ block-there r (omega (arith, all-rows))) (omega arith) x low high)
         chunk)
 
@@ -145,9 +145,10 @@ turning-starts {s} {c} {rows} {vs} at long = record { walking = λ o own. walkin
 module _ {s : List ℕ} {c : Column} {o : Loaded} (own : Owns s c o) {rows : ℕ} (has : rows ≡ blocked (c .codec) (c .rows)) {vs : List ℕ} (count : c .rows ≡ length vs)
     {decoded : List ℕ} {p : Pass} {w : Walk} (f : Turning s c rows vs decoded p w)
     {q : Pass} (at : q ≡ passed s rows (min (w .at / 512 + 1) (blockCount rows)))
-    {a : Stretch} {new : List ℕ} (chunk : StretchAs (rowIn c (blockCount rows) (q .block) s) (w .at) (chunkSize (columnRow c (w .at)) (c .window .rows - w .at)) a decoded new) where
+    {blocks : ℕ} (many : blocks ≡ blockCount rows)
+    {a : Stretch} {new : List ℕ} (chunk : StretchAs (rowIn c blocks (q .block) s) (w .at) (chunkSize (columnRow c (w .at)) (c .window .rows - w .at)) a decoded new) where
   by-own : (o : Loaded) → Owns s c o → StretchAs (rowAt c (o .table) s) (w .at) (chunkSize (w .at) (length vs - w .at)) a decoded new
-  by-own o e = own-stretch e has (w .at) (length vs) count at chunk
+  by-own o e = own-stretch e has (w .at) (length vs) count at many chunk
 
   pub turn-room : (n : ℕ) → n ≡ length vs → (counted a ≤ length new) × (w .at ≤ n) × (w .at + counted a < 2 ^ 32)
   turn-room n is = step-room (rowAt c (o .table) s) (f .walking o own) n is (omega (arith, rows-few own)) (f .long) (by-own o own)

@@ -32,7 +32,7 @@ pub fn verdict_on(kind: Kind, opened: Opened, bytes: &[u8], values: &[u64]) -> C
         };
     }
     let rows = open_column::opening::table_rows(opened);
-    let blocks = (rows as usize + 511) / 512;
+    let blocks = format::block_count(rows);
     let mut decoded = [0u64; 512];
     let mut pass = blockwise_linear::passing::begin(bytes, rows);
     let mut w = Walk { at: 0, going: true };

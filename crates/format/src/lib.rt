@@ -4,6 +4,7 @@
 ghost use mathlib.Core.Path.{_≡_};
 ghost use lib.ListN.{getD};
 ghost use Rattle.format.specs.Refusals.{paper};
+ghost use Rattle.format.specs.Bodies.{blockCount};
 ghost use Rattle.format.specs.Opening.{columnOf};
 ghost use Rattle.format.specs.Varint.{firstOf};
 
@@ -135,6 +136,13 @@ pub struct Block {
     pub line: Line,
     pub bits: u64,
     pub start: u64,
+}
+
+// How many blocks so many rows have.
+pub fn block_count(rows: u32) -> usize
+    ensures { λ r. ⌜ r ≡ blockCount rows ⌝ }
+{
+    (rows as usize + 511) / 512
 }
 
 // Where a row's packed number stands: number `row`, of `bits` bits, of a run that starts at byte `start` of the area.

@@ -47,7 +47,7 @@ pub fn block_count(column: Column) -> usize
     ensures { λ r. ⌜ r ≡ blockCount (blockRows column) ⌝ }
 {
     let rows = block_rows(column);
-    (rows as usize + 511) / 512
+    format::block_count(rows)
 }
 
 // A column of these bytes, before its first block.

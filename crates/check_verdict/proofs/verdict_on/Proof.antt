@@ -40,11 +40,8 @@ returns-2 c =
 table-rows-requires : tie.Need-table-rows-requires Inv-loop μ-loop
 table-rows-requires c κs = search needs
 
-cast-blocks : tie.Need-cast-blocks Inv-loop μ-loop
-cast-blocks c = search needs
-
-add-blocks : tie.Need-add-blocks Inv-loop μ-loop
-add-blocks c = search needs
+block-count-requires : tie.Need-block-count-requires Inv-loop μ-loop
+block-count-requires c κs = search needs
 
 begin-requires : tie.Need-begin-requires Inv-loop μ-loop
 begin-requires c κs = search needs
@@ -59,7 +56,7 @@ pass-to-requires : tie.Need-pass-to-requires Inv-loop μ-loop
 pass-to-requires c κs =
     let l = c .before .before in
     let b = l .before in
-    let t = b .before in
+    let t = b .before .before in
     let e = t .before in
     let k = e .before .before in
     let told = k .before .opened .given .1 in
@@ -81,7 +78,8 @@ step-requires c κs =
     let p = g .before .before .before in
     let l = p .before .before .before in
     let b = l .before in
-    let t = b .before in
+    let n = b .before in
+    let t = n .before in
     let e = t .before in
     let k = e .before .before in
     let told = k .before .opened .given .1 in
@@ -89,7 +87,7 @@ step-requires c κs =
     let own = owned told (a .pre) in
     let has = t .table-rows .ensures in
     let long = sym (stored-length (a .args .kind) (now (a .args .values))) in
-    turn-room (own .1) has (e .if1 .left ∙ long) (l .loop .inv) (p .pass-to .ensures) (g .take .ensures) (length (now (a .args .values))) long
+    turn-room (own .1) has (e .if1 .left ∙ long) (l .loop .inv) (p .pass-to .ensures) (n .block-count .ensures) (g .take .ensures) (length (now (a .args .values))) long
 
 loop-less : tie.Need-loop-less Inv-loop μ-loop
 loop-less c =
@@ -97,7 +95,8 @@ loop-less c =
     let p = g .before .before .before in
     let l = p .before .before .before in
     let b = l .before in
-    let t = b .before in
+    let n = b .before in
+    let t = n .before in
     let e = t .before in
     let k = e .before .before in
     let told = k .before .opened .given .1 in
@@ -105,7 +104,7 @@ loop-less c =
     let own = owned told (a .pre) in
     let has = t .table-rows .ensures in
     let long = sym (stored-length (a .args .kind) (now (a .args .values))) in
-    turn-less (own .1) has (e .if1 .left ∙ long) (l .loop .inv) (p .pass-to .ensures) (g .take .ensures) (c .step .ensures) (p .before .before .loop-test .taken)
+    turn-less (own .1) has (e .if1 .left ∙ long) (l .loop .inv) (p .pass-to .ensures) (n .block-count .ensures) (g .take .ensures) (c .step .ensures) (p .before .before .loop-test .taken)
 
 loop-again : tie.Need-loop-again Inv-loop μ-loop
 loop-again c =
@@ -113,7 +112,8 @@ loop-again c =
     let p = g .before .before .before in
     let l = p .before .before .before in
     let b = l .before in
-    let t = b .before in
+    let n = b .before in
+    let t = n .before in
     let e = t .before in
     let k = e .before .before in
     let told = k .before .opened .given .1 in
@@ -121,12 +121,12 @@ loop-again c =
     let own = owned told (a .pre) in
     let has = t .table-rows .ensures in
     let long = sym (stored-length (a .args .kind) (now (a .args .values))) in
-    turn-again (own .1) has (e .if1 .left ∙ long) (l .loop .inv) (p .pass-to .ensures) (g .take .ensures) (c .step .ensures)
+    turn-again (own .1) has (e .if1 .left ∙ long) (l .loop .inv) (p .pass-to .ensures) (n .block-count .ensures) (g .take .ensures) (c .step .ensures)
 
 answer-requires : tie.Need-answer-requires Inv-loop μ-loop
 answer-requires c κs =
     let b = c .before .before in
-    let t = b .before in
+    let t = b .before .before in
     let e = t .before in
     let k = e .before .before in
     let told = k .before .opened .given .1 in
@@ -138,7 +138,7 @@ returns-3 : tie.Need-returns-3 Inv-loop μ-loop
 returns-3 c =
     let l = c .before .before in
     let b = l .before in
-    let t = b .before in
+    let t = b .before .before in
     let e = t .before in
     let k = e .before .before in
     let told = k .before .opened .given .1 in
@@ -158,8 +158,7 @@ verdict-on-spec =
     cast-if1
     returns-2
     table-rows-requires
-    cast-blocks
-    add-blocks
+    block-count-requires
     begin-requires
     loop-holds
     cast-pass-to

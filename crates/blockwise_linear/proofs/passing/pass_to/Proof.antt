@@ -19,8 +19,8 @@ Inv-loop bytes rows k blocks end p₀ p = (end ≡ min (k + 1) (blockCount rows)
 abbrev μ-loop : tie.MeasureT-loop
 μ-loop bytes rows k blocks end p₀ p = end - p .count
 
-add-blocks : tie.Need-add-blocks Inv-loop μ-loop
-add-blocks c = search needs
+block-count-requires : tie.Need-block-count-requires Inv-loop μ-loop
+block-count-requires c κs = search needs
 
 add-end : tie.Need-add-end Inv-loop μ-loop
 add-end c = search needs
@@ -31,8 +31,9 @@ begin-requires c κs = search needs
 loop-holds : tie.Need-loop-holds Inv-loop μ-loop
 loop-holds c =
     let j = c .before .before in
-    let s = j .before .before in
-    let end : j .if1 .end ≡ min (s .args .k + 1) (blockCount (s .args .rows)) = ⊎-elim (λ w. omega arith) (λ w. omega arith) (j .if1 .came) in
+    let n = j .before in
+    let s = n .before .before in
+    let end : j .if1 .end ≡ min (s .args .k + 1) (blockCount (s .args .rows)) = ⊎-elim (λ w. omega (arith, n .block-count .ensures)) (λ w. omega (arith, n .block-count .ensures)) (j .if1 .came) in
     ⊎-elim
     (λ w.
     let start = passing-starts (w .2 ∙ w .1 .ensures) in
@@ -43,15 +44,15 @@ loop-holds c =
 further-requires : tie.Need-further-requires Inv-loop μ-loop
 further-requires c κs =
     let l = c .before .before in
-    let s = l .before .before .before .before .before in
+    let s = l .before .before .before .before .before .before in
     (omega (arith, l .loop .inv .0), passing-good (search needs) (s .pre .0) (l .loop .inv .1) (omega (arith, l .loop .inv .0)))
 
 -- a block further
-on : (c : tie.After-further Inv-loop μ-loop) → let s = c .before .before .before .before .before .before .before .before in
+on : (c : tie.After-further Inv-loop μ-loop) → let s = c .before .before .before .before .before .before .before .before .before in
     Passing (now (s .args .bytes)) (s .args .rows) (c .further .result) × (c .further .result .count ≡ c .before .before .before .loop .p .count + 1)
 on c =
     let l = c .before .before .before in
-    let s = l .before .before .before .before .before in
+    let s = l .before .before .before .before .before .before in
     passing-further (search needs) (s .pre .0) (l .loop .inv .1) (omega (arith, l .loop .inv .0)) (c .further .ensures)
 
 loop-less : tie.Need-loop-less Inv-loop μ-loop
@@ -63,7 +64,7 @@ loop-again c = (c .before .before .before .loop .inv .0, on c .0, omega (arith, 
 returns : tie.Need-returns Inv-loop μ-loop
 returns c =
     let l = c .before .before in
-    let all : l .loop .p .count ≡ min (l .before .before .before .before .before .args .k + 1) (blockCount (l .before .before .before .before .before .args .rows)) = omega (arith, l .loop .inv .0) in
+    let all : l .loop .p .count ≡ min (l .before .before .before .before .before .before .args .k + 1) (blockCount (l .before .before .before .before .before .before .args .rows)) = omega (arith, l .loop .inv .0) in
     l .loop .inv .1 .stands ∙ ap (passed _ _) all
 
 pub pass-to-spec : {M : Type 1} → statement M
@@ -72,7 +73,7 @@ pass-to-spec =
     (tie.spec
     Inv-loop
     μ-loop
-    add-blocks
+    block-count-requires
     add-end
     begin-requires
     loop-holds

@@ -22,7 +22,7 @@ abbrev μ-loop : tie.MeasureT-loop
 
 -- the bytes
 abbrev bytes : tie.At-loop Inv-loop μ-loop → List ℕ
-bytes l = now (l .before .before .before .before .args .bytes)
+bytes l = now (l .before .before .before .before .before .args .bytes)
 
 footer-end-requires : tie.Need-footer-end-requires Inv-loop μ-loop
 footer-end-requires c κs = search needs
@@ -30,11 +30,11 @@ footer-end-requires c κs = search needs
 first-requires : tie.Need-first-requires Inv-loop μ-loop
 first-requires c κs = search needs
 
-add-left : tie.Need-add-left Inv-loop μ-loop
-add-left c = search needs
+block-count-requires : tie.Need-block-count-requires Inv-loop μ-loop
+block-count-requires c κs = search needs
 
 loop-holds : tie.Need-loop-holds Inv-loop μ-loop
-loop-holds c = ending-starts _ _ _
+loop-holds c = rw (c .block-count .ensures) (ending-starts _ _ _)
 
 fields-at-requires : tie.Need-fields-at-requires Inv-loop μ-loop
 fields-at-requires c κs = search needs
@@ -50,7 +50,7 @@ returns c =
     let k = c .before .before .before in
     let l = k .before .before in
     sym
-    (last-refused (bytes l) _ _ (ap (λ (f : Cursor). f .at) (l .before .first .ensures)) _ _
+    (last-refused (bytes l) _ _ (ap (λ (f : Cursor). f .at) (l .before .before .first .ensures)) _ _
     (ending-refused (l .loop .inv) _ _ (k .before .loop-test .taken) (told fieldsMeaning (k .fields-at .ensures) (c .before .r .given .1))))
 
 sub-left : tie.Need-sub-left Inv-loop μ-loop
@@ -68,7 +68,7 @@ returns-2 : tie.Need-returns-2 Inv-loop μ-loop
 returns-2 c =
     let l = c .before in
     sym
-    (last-found (bytes l) _ _ (ap (λ (f : Cursor). f .at) (l .before .first .ensures)) _ _ _ (l .before .before .footer-end .ensures)
+    (last-found (bytes l) _ _ (ap (λ (f : Cursor). f .at) (l .before .before .first .ensures)) _ _ _ (l .before .before .before .footer-end .ensures)
     (ending-ends (l .loop .inv) (c .loop-test .left)))
 
 pub footer-last-spec : {M : Type 1} → statement M
@@ -79,7 +79,7 @@ footer-last-spec =
     μ-loop
     footer-end-requires
     first-requires
-    add-left
+    block-count-requires
     loop-holds
     fields-at-requires
     enum-known-f

@@ -33,7 +33,7 @@ footer-told c = sym (c .before .footer-fits .ensures) ∙ not-false _ (c .if1 .l
 
 -- the table has room
 enough-told : (c : tie.Else2) → leb (blockCount (head (c .before .before) .rows)) (c .before .before .before .before .before .args .room) ≡ true
-enough-told c = le-leb _ _ (c .if2 .left)
+enough-told c = le-leb _ (c .before .before .before .before .before .args .room) (omega (arith, c .if2 .left, c .before .block-count .ensures))
 
 -- the area that was found
 abbrev roomy : tie.After-known-told → tie.Else2
@@ -61,14 +61,14 @@ footer-fits-requires c κs = search needs
 returns : tie.Need-returns
 returns c = rw (column-by-area _ _ _, sym (c .before .footer-fits .ensures) ∙ not-true _ (c .if1 .taken))
 
-cast-blocks : tie.Need-cast-blocks
-cast-blocks c = search needs
-
-add-blocks : tie.Need-add-blocks
-add-blocks c = search needs
+block-count-requires : tie.Need-block-count-requires
+block-count-requires c κs = search needs
 
 returns-2 : tie.Need-returns-2
-returns-2 c = rw (column-by-area _ _ _, footer-told (c .before .before), lt-leb _ _ (c .if2 .taken))
+returns-2 c =
+    let n = c .before in
+    let room = n .before .before .before .before .args .room in
+    rw (column-by-area _ _ _, footer-told (n .before), lt-leb (blockCount (head (n .before) .rows)) room (omega (arith, c .if2 .taken, n .block-count .ensures)), n .block-count .ensures)
 
 first-requires : tie.Need-first-requires
 first-requires c κs = search needs
@@ -103,8 +103,7 @@ load-spec =
     (tie.spec
     footer-fits-requires
     returns
-    cast-blocks
-    add-blocks
+    block-count-requires
     returns-2
     first-requires
     check-requires
