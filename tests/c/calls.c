@@ -189,6 +189,25 @@ static void statistics(void) {
     EXPECT(refused(13, 0) && stats.maximum == 1 && stats.rows == 3);
 }
 
+static void sizes(void) {
+    const uint8_t bitpacked[] = {0}, linear[] = {1};
+    uint64_t rising[600];
+    for (size_t i = 0; i < 600; i++) {
+        rising[i] = 1000 + 7 * i;
+    }
+    hulemartob_codec_sizes sizes = {7, 7, 7};
+    hulemartob_sizes(HULEMARTOB_KIND_U64, rising, 600, &sizes, &error);
+    EXPECT(refused(0, 0) && sizes.bitpacked == 757 && sizes.linear == 15);
+    EXPECT(hulemartob_serialize(rising, 600, bitpacked, 1, NULL, 0, &error) == 0 && refused(4, sizes.bitpacked + 1));
+    EXPECT(hulemartob_serialize(rising, 600, linear, 1, NULL, 0, &error) == 0 && refused(4, sizes.linear + 1));
+    hulemartob_sizes(HULEMARTOB_KIND_I64, three_values, 3, &sizes, &error);
+    EXPECT(refused(0, 0) && sizes.linear == UINT64_MAX && sizes.bitpacked < sizes.blockwise);
+    hulemartob_sizes(HULEMARTOB_KIND_BOOL, NULL, 0, &sizes, &error);
+    EXPECT(refused(0, 0) && sizes.bitpacked == 4 && sizes.linear == UINT64_MAX && sizes.blockwise == 8);
+    hulemartob_sizes(5, three_values, 3, &sizes, &error);
+    EXPECT(refused(13, 0) && sizes.bitpacked == 4 && sizes.linear == UINT64_MAX && sizes.blockwise == 8);
+}
+
 static void writing(void) {
     const uint8_t all[] = {0, 1, 2}, linear[] = {1}, unknown[] = {0, 3, 4};
     uint8_t out[8];
@@ -562,6 +581,7 @@ int main(void) {
     sentences();
     fields();
     statistics();
+    sizes();
     writing();
     openings();
     windows();

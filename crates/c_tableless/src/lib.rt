@@ -1,4 +1,6 @@
 // Calls on plain numbers that need no table, for `hulemartob`: a kind is its number, a column its twelve numbers. What is neither is refused before all else.
+pub mod sizes;
+
 ghost use mathlib.Core.Path.{_≡_};
 ghost use Prim.Native.Nat.{_/_};
 ghost use lib.ListN.{length, getD};

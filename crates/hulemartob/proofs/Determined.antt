@@ -1,5 +1,5 @@
 -- What each export promises determines its results: two that its relation (specs/Exports) allows coincide, the refusal's numbers and every lent entry included. First the laws over any outcome, then a statement of each export.
---     column-stats-determined, column-stats-as-determined, serialize-determined, serialize-as-determined
+--     column-stats-determined, column-stats-as-determined, sizes-determined, serialize-determined, serialize-as-determined
 --     open-determined, open-under-determined, narrow-determined
 --     row-determined, lookup-determined, run-determined, replay-determined, check-determined, difference-determined
 --     part-at-determined, parts-determined, stop-determined, rows-at-determined
@@ -23,13 +23,13 @@ use Rattle.format.specs.Stats.{stated}
 use Rattle.format.specs.Writing.{written}
 use Rattle.c_numbers.specs.Explaining.{Tells}
 use Rattle.c_numbers.specs.Numbers.{Answers, Describes, Narrows, States}
-use Rattle.c_tableless.specs.Calls.{narrowedFrom, statedFrom, writtenFrom}
+use Rattle.c_tableless.specs.Calls.{narrowedFrom, sizesFrom, sizesTold, statedFrom, writtenFrom}
 use Rattle.c_answers.specs.Replaying.{Reports}
 use Rattle.c_parts.specs.Listed.{listedFrom}
 use Rattle.c_parts.proofs.Determined.{walks-determined}
 use Rattle.hulemartob.specs.Calls.{rowFrom, foundFrom, runFrom, replayedFrom, partFrom, rowsFrom, checkedFrom, Lists, Loads}
 use Rattle.hulemartob.specs.Differing.{differenceFrom}
-use Rattle.hulemartob.specs.Exports.{ColumnStatsPromise, ColumnStatsAsPromise, SerializePromise, SerializeAsPromise, OpenPromise, OpenUnderPromise, NarrowPromise, RowPromise, LookupPromise, RunPromise, ReplayPromise, CheckPromise, DifferencePromise}
+use Rattle.hulemartob.specs.Exports.{ColumnStatsPromise, ColumnStatsAsPromise, SizesPromise, SerializePromise, SerializeAsPromise, OpenPromise, OpenUnderPromise, NarrowPromise, RowPromise, LookupPromise, RunPromise, ReplayPromise, CheckPromise, DifferencePromise}
 use Rattle.hulemartob.specs.Exports.{PartAtPromise, PartsPromise, StopPromise, RowsAtPromise, ValuesAsPromise, I64OfPromise, BoolOfPromise, F64BitsOfPromise, I64RangePromise, BoolRangePromise, F64RangePromise}
 
 -- ---- over any outcome
@@ -83,6 +83,10 @@ column-stats-determined values = states-determined (stated values)
 pub column-stats-as-determined : (kind : ℕ) (values stats refusal refusal′ after after′ : List ℕ)
     → ColumnStatsAsPromise kind values refusal stats after → ColumnStatsAsPromise kind values refusal′ stats after′ → (refusal ≡ refusal′) × (after ≡ after′)
 column-stats-as-determined kind values = states-determined (statedFrom kind values)
+
+pub sizes-determined : (kind : ℕ) (values sizes refusal refusal′ after after′ : List ℕ)
+    → SizesPromise kind values refusal sizes after → SizesPromise kind values refusal′ sizes after′ → (refusal ≡ refusal′) × (after ≡ after′)
+sizes-determined kind values = tells-determined (sizesTold (sizesFrom kind values))
 
 pub serialize-determined : (values codecs out : List ℕ) (r r′ : ℕ) (refusal refusal′ after after′ : List ℕ)
     → SerializePromise values codecs r refusal out after → SerializePromise values codecs r′ refusal′ out after′ → (r ≡ r′) × (refusal ≡ refusal′) × (after ≡ after′)

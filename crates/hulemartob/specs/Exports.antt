@@ -15,7 +15,7 @@ use Rattle.format.specs.Typed.{signedOf, flagOf, floatOf, signedRange, flagRang
 use Rattle.format.specs.Writing.{written}
 use Rattle.c_numbers.specs.Explaining.{Tells}
 use Rattle.c_numbers.specs.Numbers.{filled, Answers, Narrows, States}
-use Rattle.c_tableless.specs.Calls.{narrowedFrom, statedFrom, writtenFrom}
+use Rattle.c_tableless.specs.Calls.{narrowedFrom, sizesFrom, sizesTold, statedFrom, writtenFrom}
 use Rattle.c_answers.specs.Replaying.{Reports}
 use Rattle.c_parts.specs.Listed.{listedFrom, Walks}
 use Rattle.byte_stop.specs.Numbers.{stopNumbers}
@@ -31,6 +31,10 @@ ColumnStatsPromise values refusal stats stats′ = States (stated values) refusa
 -- `hulemartob_column_stats_as`
 abbrev pub ColumnStatsAsPromise : (kind : ℕ) (values refusal stats stats′ : List ℕ) → Type 0
 ColumnStatsAsPromise kind values refusal stats stats′ = States (statedFrom kind values) refusal stats stats′
+
+-- `hulemartob_sizes`
+abbrev pub SizesPromise : (kind : ℕ) (values refusal sizes sizes′ : List ℕ) → Type 0
+SizesPromise kind values refusal sizes sizes′ = Tells (sizesTold (sizesFrom kind values)) refusal sizes sizes′
 
 -- `hulemartob_serialize`
 abbrev pub SerializePromise : (values codecs : List ℕ) (r : ℕ) (refusal out out′ : List ℕ) → Type 0

@@ -1,11 +1,12 @@
 // Columns of signed numbers, dates, bools and floats. A list of any kind is lent as 64-bit words, with the kind's number: 0 plain numbers, 1 signed numbers,
 // 2 dates, 3 bools, 4 floats. What a row's value reads as is a call on that number, what a run's values read as one on the list of them, and a lookup by values is one in the range of stored numbers that
 // a call makes of its bounds: so no call here takes a column.
-ghost use Rattle.hulemartob.specs.Exports.{ColumnStatsAsPromise, SerializeAsPromise, I64OfPromise, BoolOfPromise, F64BitsOfPromise, ValuesAsPromise, I64RangePromise, BoolRangePromise, F64RangePromise};
+ghost use Rattle.hulemartob.specs.Exports.{ColumnStatsAsPromise, SizesPromise, SerializeAsPromise, I64OfPromise, BoolOfPromise, F64BitsOfPromise, ValuesAsPromise, I64RangePromise, BoolRangePromise, F64RangePromise};
 use c_answers::length_told;
 use c_answers::stats_told;
 use c_numbers::kinds::kind_from;
 use c_numbers::kinds::kind_of;
+use c_tableless::sizes::sizes_told;
 
 // ---- writing
 
@@ -21,6 +22,20 @@ pub extern "C" fn hulemartob_column_stats_as(
 {
     let answer = c_tableless::stated(kind, values);
     stats_told(answer, stats, refusal);
+}
+
+// What the choice compares of each codec, for a list of values: Bitpacked, Linear, Blockwise; 2^64 - 1 where a codec does not apply.
+#[no_mangle]
+pub extern "C" fn hulemartob_sizes(
+    kind: u32,
+    values: &[u64],
+    sizes: &mut [u64; 3],
+    refusal: &mut [u64; 2],
+)
+    ensures { λ _. ⌜ SizesPromise kind (now (values .entry)) (now (refusal .exit)) (now (sizes .entry)) (now (sizes .exit)) ⌝ }
+{
+    let answer = c_tableless::sizes::sizes(kind, values);
+    sizes_told(answer, sizes, refusal);
 }
 
 // Writes a list of values as a column by one of the listed codecs, and returns the column's length, 0 on refusal.

@@ -5,6 +5,7 @@
 --     walked-starts, walked-same, walked-more                        one listed codec further
 --     Choosing, choosing-starts, choosing-next, choosing-ends        the walk for the least
 --     names-none, names-best, alone, names-only                      the codec of the least, and of a list that holds Blockwise alone
+--     size-none, size-some                                           the size of a codec with its size
 -- Assumes nothing.
 use Prim.Native.Nat.{ℕ, zero, suc, _+_, _≤_, _<_}
 use mathlib.Core.Path.{_≡_, refl, sym, ap, _∙_}
@@ -23,7 +24,7 @@ use Rattle.format.specs.declared.Codec.{Codec}
 use Rattle.format.specs.declared.Codec.the-variants.{Blockwise}
 use Rattle.format.specs.declared.ColumnStats.{ColumnStats}
 use Rattle.format.specs.Outcome.{Outcome.value, Outcome.refusal, pick}
-use Rattle.format.specs.Writing.{Sized, sizeOf, smaller, chosen, known, codecOf}
+use Rattle.format.specs.Writing.{Sized, sized, sizeOf, smaller, chosen, known, codecOf}
 use Rattle.format.proofs.Outcomes.{by-demand}
 use Rattle.write_codec.specs.declared.choice.Best.the-variants.{Nothing, Least}
 use Rattle.write_codec.specs.declared.choice.Best.{Best}
@@ -226,3 +227,24 @@ pub alone : (cs : List ℕ) {c : ℕ} → length cs ≡ 1 → getD cs 0 0 ≡ c 
 alone [] one is = absurd (omega arith)
 alone (d ∷ []) one is = ap (λ (e : ℕ). e ∷ []) is
 alone (d ∷ e ∷ cs) one is = absurd (omega arith)
+
+-- ---- the size of a codec
+
+-- the size of a codec that has one
+sizeIn : Option Sized → Option ℕ
+sizeIn none = none
+sizeIn (some a) = some (a .size)
+
+size-in : (code : ℕ) (o : Option ℕ) → sizeIn (sized code o) ≡ o
+unfolding sizeIn
+size-in code none = refl
+size-in code (some n) = refl
+
+module _ (s : ColumnStats) (vs : List ℕ) (code : ℕ) {b : Best} (best : Stands vs (sizedBy s vs code) b) where
+  pub size-none : b ≡ Nothing → none ≡ sizeOf code s vs
+  unfolding sizeIn
+  size-none is = ap (λ (b : Best). sizeIn (bestMeaning b)) (sym is) ∙ ap sizeIn (best .means) ∙ size-in code (sizeOf code s vs)
+
+  pub size-some : {codec : Codec} {size : ℕ} → b ≡ Least codec size → some size ≡ sizeOf code s vs
+  unfolding sizeIn
+  size-some is = ap (λ (b : Best). sizeIn (bestMeaning b)) (sym is) ∙ ap sizeIn (best .means) ∙ size-in code (sizeOf code s vs)

@@ -91,8 +91,8 @@ fn sized_linear(kind: Kind, values: &[u64], stats: ColumnStats) -> Best
     Best::Least { codec, size }
 }
 
-// A codec with its size, where it applies.
-fn sized(kind: Kind, values: &[u64], stats: ColumnStats, code: u8) -> Best
+// Internal: asks for the values' own statistics, and for the number of a codec. This codec with its size, where it applies.
+pub fn sized(kind: Kind, values: &[u64], stats: ColumnStats, code: u8) -> Best
     requires { ⌜ Describes stats (storedAs kind (now values)) ⌝ }
     requires { ⌜ code ≤ 2 ⌝ }
     ensures { λ r. ⌜ Stands (storedAs kind (now (values .entry))) (sizedBy stats (storedAs kind (now (values .entry))) code) r ⌝ }

@@ -236,6 +236,9 @@ pub struct Write {
     /// How the values are to be read
     #[arg(long, default_value_t = Kind::U64, value_parser = kinds())]
     pub kind: Kind,
+    /// Say the sizes that the choice compared, on standard error
+    #[arg(long)]
+    pub explain: bool,
 }
 
 #[derive(Args)]

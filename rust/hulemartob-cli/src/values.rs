@@ -34,6 +34,11 @@ impl Values {
         raw::check(self.kind, sheet as u32, bytes, &self.words)
     }
 
+    /// The size by each codec that a choice compares, `u64::MAX` where one does not apply.
+    pub fn sizes(&self) -> Result<[u64; 3], Error> {
+        raw::sizes(self.kind, &self.words)
+    }
+
     /// The list as a column.
     pub fn encode(&self, codecs: &[Codec]) -> Result<Vec<u8>, Error> {
         raw::encode(self.kind, &self.words, codecs)

@@ -229,6 +229,21 @@ fn written_by_a_named_codec() {
     assert!(!folder.0.join("d").exists());
 }
 
+#[test]
+fn choice_explained() {
+    let folder = Folder::new();
+    folder.put("v", words(&(0..600).map(|i| 1000 + 7 * i).collect::<Vec<u64>>())).put("three", words(&ROWS));
+    let said = |lines: [&str; 3]| lines.map(|line| format!("hulemartob: {line}\n")).concat();
+    let sizes =
+        ["Bitpacked: 757 bytes and the code byte", "Linear: 15 bytes and the code byte", "Blockwise: about 0 bytes and the code byte"];
+    let (status, out, errors) = folder.run("write v -o c --explain");
+    assert_eq!((status, out.as_str(), errors), (0, "c: Blockwise, 600 rows, 27 bytes\n", said(sizes)));
+    let (status, out, errors) = folder.run("write three -o d --explain --codec bitpacked,linear");
+    let sizes =
+        ["Bitpacked: 5 bytes and the code byte", "Linear: does not apply", "Blockwise: about 16 bytes and the code byte, not listed"];
+    assert_eq!((status, out.as_str(), errors), (0, "d: Bitpacked, 3 rows, 6 bytes\n", said(sizes)));
+}
+
 // ---- bless
 
 #[test]

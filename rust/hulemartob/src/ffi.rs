@@ -20,6 +20,7 @@ type Refusal = [u64; 2];
 unsafe extern "C" {
     fn hulemartob_column_stats(values: *const u64, values_len: usize, stats: &mut [u64; 4], refusal: &mut Refusal);
     fn hulemartob_column_stats_as(kind: u32, values: *const u64, values_len: usize, stats: &mut [u64; 4], refusal: &mut Refusal);
+    fn hulemartob_sizes(kind: u32, values: *const u64, values_len: usize, sizes: &mut [u64; 3], refusal: &mut Refusal);
 
     fn hulemartob_serialize(values: *const u64, values_len: usize, codecs: *const u8, codecs_len: usize,
         out: *mut u8, out_len: usize, refusal: &mut Refusal) -> usize;
@@ -87,6 +88,19 @@ pub fn stats(kind: Kind, words: &[u64]) -> Result<Stats, Error> {
         _ => unsafe { hulemartob_column_stats_as(kind as u32, words.as_ptr(), words.len(), &mut stats, &mut refusal) },
     }
     answer(refusal, Stats::from_numbers(stats))
+}
+
+/// What the choice of a codec compares, for a list of words of a kind: the size by each codec in the order of their numbers, [`u64::MAX`] where one does not
+/// apply. [`Sizes`](crate::Sizes) says what the sizes are.
+///
+/// # Errors
+///
+/// 1.
+pub fn sizes(kind: Kind, words: &[u64]) -> Result<[u64; 3], Error> {
+    let (mut sizes, mut refusal) = ([0; 3], [0; 2]);
+    // SAFETY: lent.
+    unsafe { hulemartob_sizes(kind as u32, words.as_ptr(), words.len(), &mut sizes, &mut refusal) };
+    answer(refusal, sizes)
 }
 
 /// Writes a list of words of a kind as a column into `out`, by that of the listed codecs whose size is least; the codecs are code bytes. Returns the

@@ -71,4 +71,4 @@ pub use parts::{Part, PartName, Parts};
 pub use replay::{Recorded, Recording, RecordingBuilder, Replay};
 pub use stop::{Stop, stop};
 pub use value::{Date, Kind, Value};
-pub use write::{Stats, encode, encode_into, encode_with, encoded_len, max_encoded_len, stats};
+pub use write::{Sizes, Stats, encode, encode_into, encode_with, encoded_len, max_encoded_len, sizes, stats};

@@ -24,7 +24,7 @@ use std::fmt;
 
 use crate::{Codec, Column, Error, Kind, Mismatch, ffi, max_encoded_len};
 
-pub use crate::ffi::{open, serialize, stats};
+pub use crate::ffi::{open, serialize, sizes, stats};
 
 /// A block of a Blockwise column, as the block table has it. Any numbers may be handed to reading.
 #[repr(C)]

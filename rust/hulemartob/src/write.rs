@@ -1,4 +1,4 @@
-//! Writing columns, and the statistics that their heads state.
+//! Writing columns, the statistics that their heads state, and the sizes that their codecs are chosen by.
 
 use crate::{Codec, Error, Value, raw};
 
@@ -34,6 +34,53 @@ impl Stats {
 /// [`TooManyValues`](Error::TooManyValues).
 pub fn stats<T: Value>(values: &[T]) -> Result<Stats, Error> {
     raw::stats(T::KIND, &T::words(values))
+}
+
+/// What the choice of a codec compares: for each codec the bytes behind the code byte, none where the codec does not apply.
+///
+/// Those of [`Bitpacked`](Codec::Bitpacked) and [`Linear`](Codec::Linear) are exact: their columns have one byte more. That of [`Blockwise`](Codec::Blockwise) is
+/// an estimate, which takes the lines of the blocks from the values as they are stored, not from their multiples of the gcd, and takes off what the gcd is
+/// thought to save; its columns may be shorter or longer, and [`encoded_len`] tells how long.
+#[derive(Clone, Copy, Debug, PartialEq, Eq, Hash)]
+pub struct Sizes([Option<u64>; 3]);
+
+impl Sizes {
+    /// The size by a codec, if it applies: Linear asks for 512 values.
+    #[must_use]
+    pub const fn by(self, codec: Codec) -> Option<u64> {
+        self.0[codec as usize]
+    }
+
+    /// That of the listed codecs whose size is least, the earliest of equals: the one by which [`encode_with`] writes. None where no listed codec applies.
+    #[must_use]
+    pub fn least(self, codecs: &[Codec]) -> Option<Codec> {
+        let sized = codecs.iter().filter_map(|&codec| Some((self.by(codec)?, codec)));
+        sized.min_by_key(|&(size, _)| size).map(|(_, codec)| codec)
+    }
+}
+
+/// The sizes by which the codec of a list of values is chosen. Every codec is sized, which reads the values several times.
+///
+/// ```
+/// use hulemartob::{Codec, encode, encoded_len, sizes};
+///
+/// let values: Vec<u64> = (0..600).map(|i| 1000 + 7 * i).collect();
+/// let sizes = sizes(&values)?;
+/// assert_eq!(sizes.by(Codec::Bitpacked), Some(757));
+/// assert_eq!(sizes.by(Codec::Linear), Some(15));
+/// // the code byte is not counted
+/// assert_eq!(encoded_len(&values, &[Codec::Linear])?, 16);
+/// // the column's first byte names the codec
+/// assert_eq!(sizes.least(&Codec::ALL), Some(Codec::try_from(encode(&values)?[0])?));
+/// # Ok::<(), Box<dyn std::error::Error>>(())
+/// ```
+///
+/// # Errors
+///
+/// [`TooManyValues`](Error::TooManyValues).
+pub fn sizes<T: Value>(values: &[T]) -> Result<Sizes, Error> {
+    let sizes = raw::sizes(T::KIND, &T::words(values))?;
+    Ok(Sizes(sizes.map(|size| (size != u64::MAX).then_some(size))))
 }
 
 /// Rows in a block of a Blockwise column.

@@ -1,7 +1,9 @@
 //! The library through this crate: the format's worked examples, round trips, every refusal, and columns that were damaged or made up.
 
 use hulemartob::raw::{self, Block, Numbers};
-use hulemartob::{Codec, Column, Error, Kind, Line, Sheet, Stats, encode, encode_into, encode_with, encoded_len, max_encoded_len, stats};
+use hulemartob::{
+    Codec, Column, Error, Kind, Line, Sheet, Stats, encode, encode_into, encode_with, encoded_len, max_encoded_len, sizes, stats,
+};
 
 /// The rows 10, 30, 20 as a column, by the codec that is chosen and by Blockwise.
 const BITPACKED: [u8; 6] = [0x00, 0x8A, 0x8A, 0x82, 0x83, 0x18];
@@ -52,6 +54,29 @@ fn statistics() {
     assert_eq!(stats(&[7u64]), told(7, 7, 1, 1));
     assert_eq!(stats(&[10u64, 30, 20]), told(10, 30, 10, 3));
     assert_eq!(stats(&[u64::MAX, 0]), told(0, u64::MAX, u64::MAX, 2));
+}
+
+/// Sizes are those of what is written by each codec, but for the code byte; Blockwise's may be nine bytes a block less where the gcd is 1. The least of any
+/// listed ones, the earliest of equals, is the codec that is written by.
+#[test]
+fn sizes_by_codec() {
+    let [bitpacked, linear, blockwise] = Codec::ALL;
+    let listed = [&Codec::ALL[..], &[blockwise, linear, bitpacked], &[linear, blockwise], &[bitpacked, linear], &[linear], &[]];
+    for values in lists() {
+        let sizes = sizes(&values).unwrap();
+        let written = |codec| encoded_len(&values, &[codec]).map(|length| length as u64 - 1);
+        assert_eq!(sizes.by(bitpacked).ok_or(Error::NoCodecApplies), written(bitpacked));
+        assert_eq!(sizes.by(linear).ok_or(Error::NoCodecApplies), written(linear));
+        assert_eq!(sizes.by(linear).is_some(), values.len() >= 512);
+        let (estimate, blocks) = (sizes.by(blockwise).unwrap(), values.len().div_ceil(512) as u64);
+        assert!(stats(&values).unwrap().gcd > 1 || written(blockwise).unwrap() <= estimate + 9 * blocks);
+        for codecs in listed {
+            let codec = encode_with(&values, codecs).map(|bytes| Codec::try_from(bytes[0]).unwrap());
+            assert_eq!(sizes.least(codecs).ok_or(Error::NoCodecApplies), codec);
+        }
+    }
+    assert_eq!(sizes::<u64>(&[]).map(|sizes| Codec::ALL.map(|codec| sizes.by(codec))), Ok([Some(4), None, Some(8)]));
+    assert_eq!(sizes(&[-10i64, 10, 0]), sizes(&[(1u64 << 63) - 10, (1 << 63) + 10, 1 << 63]));
 }
 
 #[test]
