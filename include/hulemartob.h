@@ -387,9 +387,10 @@ enum hulemartob_kind {
 /* hulemartob_column_stats of the numbers that values of a kind are stored as. Refused 13, 1. */
 void hulemartob_column_stats_as(uint32_t kind, const uint64_t *values, size_t values_len, hulemartob_stats *stats, hulemartob_error *error);
 
-/* What the choice of a codec compares: for each codec the bytes behind the code byte, UINT64_MAX where the codec does not apply, as Linear does not to fewer than
- * 512 values. Those of Bitpacked and of Linear are exact: their columns have one byte more. That of Blockwise is an estimate, which takes the lines of the blocks
- * from the values as they are stored, not from their multiples of the gcd, and takes off what the gcd is thought to save; its columns may be shorter or longer. */
+/* What the choice of a codec compares: for each codec the bytes behind the code byte, UINT64_MAX where the codec does not apply, as Linear does not to
+ * fewer than 512 values. Those of Bitpacked and of Linear are exact: their columns have one byte more. That of Blockwise is an estimate, which takes the
+ * lines of the blocks from the values as they are stored, not from their multiples of the gcd, and takes off what the gcd is thought to save, down to 0;
+ * its columns may be shorter or longer. */
 typedef struct hulemartob_codec_sizes {
     uint64_t bitpacked;
     uint64_t linear;

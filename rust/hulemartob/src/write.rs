@@ -38,9 +38,9 @@ pub fn stats<T: Value>(values: &[T]) -> Result<Stats, Error> {
 
 /// What the choice of a codec compares: for each codec the bytes behind the code byte, none where the codec does not apply.
 ///
-/// Those of [`Bitpacked`](Codec::Bitpacked) and [`Linear`](Codec::Linear) are exact: their columns have one byte more. That of [`Blockwise`](Codec::Blockwise) is
-/// an estimate, which takes the lines of the blocks from the values as they are stored, not from their multiples of the gcd, and takes off what the gcd is
-/// thought to save; its columns may be shorter or longer, and [`encoded_len`] tells how long.
+/// Those of [`Bitpacked`](Codec::Bitpacked) and [`Linear`](Codec::Linear) are exact: their columns have one byte more. That of
+/// [`Blockwise`](Codec::Blockwise) is an estimate, which takes the lines of the blocks from the values as they are stored, not from their multiples of the
+/// gcd, and takes off what the gcd is thought to save, down to 0; its columns may be shorter or longer, and [`encoded_len`] tells how long.
 #[derive(Clone, Copy, Debug, PartialEq, Eq, Hash)]
 pub struct Sizes([Option<u64>; 3]);
 

@@ -70,6 +70,32 @@ unsafe extern "C" {
         out_len: usize,
         refusal: *mut Refusal,
     ) -> usize;
+    fn hulemartob_sizes(kind: u32, values: *const u64, len: usize, sizes: *mut [u64; 3], refusal: *mut Refusal);
+    fn hulemartob_stop(bytes: *const u8, len: usize, place: *mut [u64; 4]);
+    fn hulemartob_parts(
+        column: *const Column,
+        bytes: *const u8,
+        len: usize,
+        cursor: *mut [u64; 2],
+        numbers: *mut u64,
+        numbers_len: usize,
+        refusal: *mut Refusal,
+    ) -> usize;
+    fn hulemartob_difference(
+        left: *const Column,
+        ltable: *const Block,
+        lblocks: usize,
+        lbytes: *const u8,
+        llen: usize,
+        right: *const Column,
+        rtable: *const Block,
+        rblocks: usize,
+        rbytes: *const u8,
+        rlen: usize,
+        from: u32,
+        differing: *mut [u64; 7],
+        refusal: *mut Refusal,
+    );
     safe fn hulemartob_i64_of(stored: u64) -> i64;
     safe fn hulemartob_bool_of(stored: u64) -> bool;
     safe fn hulemartob_f64_bits_of(stored: u64) -> u64;
@@ -169,8 +195,26 @@ fn ask_list(kind: u32, mut words: Words) {
     assert_eq!((column.len(), checksum(column)), (length, sum), "the column");
     assert!(column.starts_with(shown), "the column's first bytes");
     assert!(behind.iter().all(|&byte| byte == MARK as u8), "the output behind the column");
+    compare_sizes(kind, &values, codecs, refusal, column);
     if why[0] == 0 {
         read_back(kind, &values, column);
+    }
+}
+
+/// The sizes explain the stored choice: the column is by the earliest listed codec of the least size, which but for Blockwise and the code byte is its length; where none
+/// is chosen, none that is listed applies.
+fn compare_sizes(kind: u32, values: &[u64], codecs: &[u8], refusal: Refusal, column: &[u8]) {
+    let (mut sizes, mut why) = ([MARK; 3], [MARK; 2]);
+    unsafe { hulemartob_sizes(kind, values.as_ptr(), values.len(), &mut sizes, &mut why) };
+    assert_eq!(why, [0, 0], "sizes");
+    let least = codecs.iter().filter_map(|&codec| Some((*sizes.get(usize::from(codec))?, codec))).min_by_key(|&(size, _)| size);
+    match (refusal[0], least) {
+        (0, Some((size, codec))) => {
+            assert_eq!(column[0], codec, "the codec of the least size of {sizes:?}");
+            assert!(codec == 2 || column.len() as u64 == size + 1, "a size, and the length of {}", column.len());
+        }
+        (3, least) => assert!(least.is_none_or(|(size, _)| size == u64::MAX), "no codec applies, of {sizes:?}"),
+        _ => {}
     }
 }
 
@@ -229,6 +273,38 @@ struct Asked<'a> {
 }
 
 impl Asked<'_> {
+    /// The parts, three at a time, are the column's bytes one after the other.
+    fn parts(&self) {
+        let (mut cursor, mut end) = ([0; 2], 0);
+        loop {
+            let (mut parts, mut why) = ([[MARK; 5]; 3], [MARK; 2]);
+            let (numbers, room) = (parts.as_mut_ptr().cast(), 15);
+            let many =
+                unsafe { hulemartob_parts(&self.column, self.bytes.as_ptr(), self.bytes.len(), &mut cursor, numbers, room, &mut why) };
+            assert_eq!(why, [0, 0], "parts");
+            for part in &parts[..many] {
+                assert_eq!(part[2], end, "a part begins where the one before ends");
+                end += part[3];
+            }
+            assert!(parts[many..].iter().flatten().all(|&number| number == MARK), "the list behind the parts");
+            if many < parts.len() {
+                break;
+            }
+        }
+        assert_eq!(end, self.bytes.len() as u64, "the parts are all bytes");
+    }
+
+    /// A column does not differ from itself.
+    fn difference(&self) {
+        let (mut differing, mut why) = ([MARK; 7], [MARK; 2]);
+        let (column, table, blocks) = (&raw const self.column, self.table.as_ptr(), self.table.len());
+        let (bytes, len) = (self.bytes.as_ptr(), self.bytes.len());
+        unsafe {
+            hulemartob_difference(column, table, blocks, bytes, len, column, table, blocks, bytes, len, 0, &mut differing, &mut why);
+        }
+        assert_eq!((differing, why), ([u64::MAX, 0, 0, 0, 0, 0, 0], [0, 0]), "a column beside itself");
+    }
+
     fn row(&self, words: &mut Words) {
         let (row, kind) = halves(words.word());
         let (number, value) = (words.word(), words.word());
@@ -320,6 +396,21 @@ fn blocks(numbers: &[u64]) -> Vec<Block> {
     numbers.as_chunks::<4>().0.to_vec()
 }
 
+/// Where opening stops is told by the stored refusal's number, and at the offset that comes with it; what opens, and what only a sheet refuses, stops nowhere. Other
+/// numbers say nothing of the bytes.
+fn compare_stop(number: u64, also: u64, bytes: &[u8]) {
+    let mut place = [MARK; 4];
+    unsafe { hulemartob_stop(bytes.as_ptr(), bytes.len(), &mut place) };
+    match number {
+        5..=10 => assert_eq!(place[0], number, "where opening stops"),
+        0 | 17 => assert_eq!(place, [0; 4], "opening does not stop"),
+        _ => {}
+    }
+    if matches!(number, 6 | 9) {
+        assert_eq!(place[3], also, "the offset where opening stops");
+    }
+}
+
 fn ask_column(kind: u8, mut words: Words) {
     let (room, sheet) = halves(words.word());
     let [number, also] = words.refusal();
@@ -332,6 +423,7 @@ fn ask_column(kind: u8, mut words: Words) {
         let sheet = if kind == UNDER { sheet } else { 1 };
         let mut lent = vec![[MARK; 4]; room as usize / 4];
         let (column, longer, why) = open(sheet, bytes, &mut lent);
+        compare_stop(number, also, bytes);
         if number != 0 {
             assert_eq!(why, [number, also], "refusal of opening");
             assert!(lent.iter().flatten().chain(&column).all(|&entry| entry == MARK), "what a refused opening was lent");
@@ -341,7 +433,13 @@ fn ask_column(kind: u8, mut words: Words) {
         assert_eq!((&column[..10], &column[10..]), (numbers.as_slice(), [0, numbers[4]].as_slice()), "the opened column");
         assert_eq!(lent[..table.len()], table, "the table");
         assert!(lent[table.len()..].iter().flatten().all(|&entry| entry == MARK), "the table behind the blocks");
-        Asked { column, table: lent, bytes }
+        let asked = Asked { column, table: lent, bytes };
+        asked.parts();
+        // Of billions of rows without bits each is looked at.
+        if column[4] < 1 << 20 {
+            asked.difference();
+        }
+        asked
     } else {
         let mut column = [0; 12];
         column[..10].copy_from_slice(&numbers);
