@@ -80,5 +80,6 @@ behind s t Done room = Done
 
 -- ---- the walk
 
+-- the way through a blame, by its two columns' bytes
 abbrev pub blameWalk : (s t : List ℕ) → Walk Way
 blameWalk s t = record { most = handMax; rest = rest s t; piece = piece s t; behind = behind s t; Stands = Stands s t }

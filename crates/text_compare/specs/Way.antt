@@ -26,10 +26,11 @@ handMax = 128
 
 -- ---- two columns
 
--- what the left one's rows answer, and the right one's
+-- what the left one's rows answer
 abbrev pub leftOf : At → (s : List ℕ) (r : ℕ) → Outcome ℕ
 leftOf a s r = ownRow (a .left .column) s r
 
+-- and the right one's
 abbrev pub rightOf : At → (t : List ℕ) (r : ℕ) → Outcome ℕ
 rightOf a t r = ownRow (a .right .column) t r
 
@@ -100,5 +101,6 @@ behind s t Done room = Done
 
 -- ---- the walk
 
+-- the way through a comparison, by its two columns' bytes
 abbrev pub comparisonWalk : (s t : List ℕ) → Walk Way
 comparisonWalk s t = record { most = handMax; rest = rest s t; piece = piece s t; behind = behind s t; Stands = Stands s t }

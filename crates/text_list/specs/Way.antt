@@ -65,5 +65,6 @@ behind s Done room = Done
 
 -- ---- the walk
 
+-- the way through a listing, by its column's bytes
 abbrev pub listingWalk : (s : List ℕ) → Walk Way
 listingWalk s = record { most = handMax; rest = rest s; piece = piece s; behind = behind s; Stands = Stands s }
