@@ -171,12 +171,12 @@ module _ (vs : List ℕ) where
     multiple_below r h = rw (multiple_at vs r h) (lt_of_le_of_lt (multiple_within vs r h) (count_below vs each))
 
     -- a row in the block between others
-    value_in : (more : List ℕ) (before : List (List ℕ)) (block : List ℕ) (after : List (List ℕ)) (r : ℕ) → r < length vs
+    value_in_lem : (more : List ℕ) (before : List (List ℕ)) (block : List ℕ) (after : List (List ℕ)) (r : ℕ) → r < length vs
         → length before ≡ r / 512 → r % 512 < length block → get_or block (r % 512) 0 ≡ get_or ns r 0
         → (let col = column_of (written_head vs) (1 + length (head_bytes vs)) (length (joined block_area (before ++ (block ∷ after)))) Blockwise in
         let table = table_from 0 (before ++ (block ∷ after)) in
         value_in Blockwise col (block_at table (r / 512)) r (packed_of col (block_at table (r / 512)) (2 ∷ (head_bytes vs ++ (joined block_area (before ++ (block ∷ after)) ++ more))) r) ≡ reads_as vs r)
-    value_in more before block after r h place inside row =
+    value_in_lem more before block after r h place inside row =
         let head = head_bytes vs in
         let areas = joined block_area (before ++ (block ∷ after)) in
         let start = length (joined block_area before) in
@@ -194,7 +194,7 @@ module _ (vs : List ℕ) where
         let k = r / 512 in
         let inside : r < length ns = rw (multiples_length vs) h in
         rw (parted k ns (omega arith))
-        (value_in _ (blocks_in k ns) (block_of k ns) (later_of k ns) r h
+        (value_in_lem _ (blocks_in k ns) (block_of k ns) (later_of k ns) r h
         (length-blocks k ns) (row_inside_block ns r inside) (row_of_block ns r))
 
 -- ---- the laws

@@ -35,7 +35,7 @@ use Rattle.format.proofs.Rows.{value_of, row_answers}
 use Rattle.format.proofs.Writes.{written_as}
 use Rattle.format.proofs.Demand2.{any_codec}
 use Rattle.format.specs.Comparing.{equal_answers}
-use Rattle.format.specs.Checking.{Reason, Reason.minimum, Reason.gcd, Reason.maximum, Verdict, Verdict.passed, Verdict.failed, first_unequal, by_row, judged_head, judged, checked}
+use Rattle.format.specs.Checking.{Reason, Verdict, Verdict.passed, Verdict.failed, first_unequal, by_row, judged_head, judged, checked}
 
 -- an answer that equals a value is it
 answer_equal : (o : Outcome ℕ) (v : ℕ) → equal_answers o (value v) ≡ true → o ≡ value v

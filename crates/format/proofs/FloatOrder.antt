@@ -109,11 +109,14 @@ none_above : (y : Float) → T (lt (inf false) y) → ⊥
 unfolding lt
 none_above (inf s) t = t
 none_above (fin s n d) t = t
+none_above nan t = elim t [ ]
 
 none_below : (x : Float) → T (lt x (inf true)) → ⊥
 unfolding lt
 none_below (inf true) t = t
 none_below (fin s m e) t = t
+none_below nan t = elim t [ ]
+none_below (inf false) t = elim t [ ]
 
 finite_plus : (a b : ℕ) (x y : Float) → HasValue x false (val a) (2 ^ 1074) → HasValue y false (val b) (2 ^ 1074) → T (lt x y) → a < b
 unfolding lt
@@ -122,6 +125,10 @@ finite_plus a b (fin false m e) (fin true n d) k l t = absurd (true≢false l.0)
 finite_plus a b (fin false m e) (fin false n d) k l t =
     lt_of_not-le (λ (g : b ≤ a). not-le_of_lt (ltb→lt (m * up e * down d) (n * up d * down e) t)
     (fractions (n * up d) (down d) (m * up e) (down e) (val b) (val a) l.1 k.1 (val_mono b a g)))
+finite_plus a b nan y k l t = elim k [ ]
+finite_plus a b (inf _) y k l t = elim k [ ]
+finite_plus a b (fin false m e) nan k l t = elim l [ ]
+finite_plus a b (fin false m e) (inf _) k l t = elim l [ ]
 
 finite_minus : (a b : ℕ) (x y : Float) → HasValue x true (val a) (2 ^ 1074) → HasValue y true (val b) (2 ^ 1074) → T (lt x y) → b < a
 unfolding lt
@@ -130,12 +137,20 @@ finite_minus a b (fin true m e) (fin false n d) k l t = absurd (false≢true l.0
 finite_minus a b (fin true m e) (fin true n d) k l t =
     lt_of_not-le (λ (g : a ≤ b). not-le_of_lt (ltb→lt (n * up d * down e) (m * up e * down d) t)
     (fractions (m * up e) (down e) (n * up d) (down d) (val a) (val b) k.1 l.1 (val_mono a b g)))
+finite_minus a b nan y k l t = elim k [ ]
+finite_minus a b (inf _) y k l t = elim k [ ]
+finite_minus a b (fin true m e) nan k l t = elim l [ ]
+finite_minus a b (fin true m e) (inf _) k l t = elim l [ ]
 
 finite_apart : (p q : ℕ) (x y : Float) → HasValue x false p (2 ^ 1074) → HasValue y true q (2 ^ 1074) → T (lt x y) → ⊥
 unfolding lt
 finite_apart p q (fin true m e) y k l t = absurd (true≢false k.0)
 finite_apart p q (fin false m e) (fin false n d) k l t = absurd (false≢true l.0)
 finite_apart p q (fin false m e) (fin true n d) k l t = t
+finite_apart p q nan y k l t = elim k [ ]
+finite_apart p q (inf _) y k l t = elim k [ ]
+finite_apart p q (fin false m e) nan k l t = elim l [ ]
+finite_apart p q (fin false m e) (inf _) k l t = elim l [ ]
 
 both_plus : (a b : ℕ) (x y : Float) → Kind false a x → Kind false b y → T (lt x y) → a < b
 both_plus a b x y (inl k) (inl l) t = finite_plus a b x y k.1 l.1 t
@@ -210,6 +225,10 @@ not_below (fin false a e) (fin false b d) m n t = (or_le (a * up e * down d) (b 
 not_below (fin false a e) (fin true b d) m n t = both_zero (a * up e * down d) (b * up d * down e) t
 not_below (fin true a e) (fin false b d) m n t = sum-or_zero (a * up e * down d) (b * up d * down e)
 not_below (fin true a e) (fin true b d) m n t = (or_le (b * up d * down e) (a * up e * down d) (nltb→le (a * up e * down d) (b * up d * down e) t)).1
+not_below nan y m n t = elim m [ ]
+not_below (inf false) nan m n t = elim n [ ]
+not_below (inf true) nan m n t = elim n [ ]
+not_below (fin s a e) nan m n t = elim n [ ]
 
 -- and stored numbers in order stand for floats in order; only -0.0 and +0.0 are stored apart and equal
 pub stored_order : (a b : ℕ) → a < 2 ^ 64 → b < 2 ^ 64 → T (not (nan_bits binary64 a)) → T (not (nan_bits binary64 b)) → stored_float a ≤ stored_float b → T (le (of_bits binary64 a) (of_bits binary64 b))

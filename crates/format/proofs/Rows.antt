@@ -1,6 +1,6 @@
 -- Reading a row of a window of an opened column: never 12 nor 13; what the answer depends on; that another packed number answers otherwise.
 --     filled_block, filled_row                     a block of a lent table that was filled; reading through a lent table that was filled is reading through the opening's own blocks
---     row_there, row_fits, row_answers, answer_is  column, table and bytes fit; the answer is the value of the packed number, or 14
+--     row_there, row_fits_lem, row_answers, answer_is  column, table and bytes fit; the answer is the value of the packed number, or 14
 --     packed_same, bits_same, packed_small         a row's packed number and its bits
 --     value_tells                                  another packed number answers otherwise, unless both answers are 14
 --     ValueOr14, value_or_14, own_row                           a row of any window in an opened column, read with the table that its opening filled, has a value or is refused 14
@@ -83,9 +83,9 @@ module _ {long room : ℕ} {o : Loaded} (laid : Laid long room o) (s : List ℕ)
   row_there = omega (arith, laid.window)
 
   -- column, table and bytes fit together
-  pub row_fits : fits o.column (length o.table) (block_at o.table (at / 512)) s at ≡ true
+  pub row_fits_lem : fits o.column (length o.table) (block_at o.table (at / 512)) s at ≡ true
   unfolding fits column_fits row_fits
-  row_fits =
+  row_fits_lem =
       let p = place_of o.column (block_at o.table (at / 512)) at in
       rw (
         le-leb (o.column.window.first + o.column.window.rows) o.column.rows laid.window,
@@ -101,7 +101,7 @@ module _ {long room : ℕ} {o : Loaded} (laid : Laid long room o) (s : List ℕ)
   -- so its answer is the value of its packed number, or 14
   pub row_answers : row_at o.column o.table s r ≡ asked_as r (value_of o s at)
   unfolding row_in
-  row_answers = rw (lt-ltb r o.column.window.rows h, row_fits)
+  row_answers = rw (lt-ltb r o.column.window.rows h, row_fits_lem)
 
   -- the same through a lent table that the opening filled
   pub answer_is : (table : List Block) → room ≤ length table → answered o table s r ≡ asked_as r (value_of o s at)

@@ -203,6 +203,9 @@ le_z_trans (pos a) (pos b) (pos c) s t = le→leb a c (le_trans (leb→le a b s)
 le_z_trans (negsuc a) (pos b) (pos c) s t = tt
 le_z_trans (negsuc a) (negsuc b) (pos c) s t = tt
 le_z_trans (negsuc a) (negsuc b) (negsuc c) s t = le→leb c a (le_trans (leb→le c b t) (leb→le b a s))
+le_z_trans (pos a) (pos b) (negsuc c) s t = elim t [ ]
+le_z_trans (pos a) (negsuc b) z s t = elim s [ ]
+le_z_trans (negsuc a) (pos b) (negsuc c) s t = elim t [ ]
 
 pub signeds_keep : Keeps signeds
 signeds_keep = record {

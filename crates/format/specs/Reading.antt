@@ -6,7 +6,7 @@ use Rattle.format.specs.declared.Codec.TheVariants.{Bitpacked, Linear, Blockwise
 use Rattle.format.specs.declared.Column.{Column}
 use Rattle.format.specs.declared.Block.{Block}
 use Rattle.format.specs.declared.Place.{Place}
-use Rattle.format.specs.Outcome.{Outcome, Outcome.value, Outcome.refusal, ◌>>=◌, ◌>>◌, demand}
+use Rattle.format.specs.Outcome.{Outcome, Outcome.value, Outcome.refusal, ◌>>◌, demand}
 use Rattle.format.specs.Word.{mod_add}
 use Rattle.format.specs.Packing.{width, legal, unpack}
 use Rattle.format.specs.Line.{line_at}

@@ -3,7 +3,7 @@
 use Rattle.std.specs.Prelude.{ℕ, ◌+◌, [], leb}
 use Rattle.format.specs.declared.Column.{Column}
 use Rattle.format.specs.declared.Window.{Window}
-use Rattle.format.specs.Outcome.{Outcome, Outcome.value, Outcome.refusal, ◌>>=◌, ◌>>◌, demand}
+use Rattle.format.specs.Outcome.{Outcome, Outcome.value, Outcome.refusal, ◌>>◌, demand}
 use Rattle.format.specs.Opening.{Loaded}
 use Rattle.format.specs.Reading.{column_row, window_fits}
 

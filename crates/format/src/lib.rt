@@ -1,5 +1,6 @@
 // The format: the types that every crate shares. What the bytes of a column mean is defined in specs/, in the order of the rules; the
 // demands on those definitions are stated in specs/Demands.antt and proved in proofs/.
+#![tactic(auto)]
 
 ghost use Rattle.std.specs.Prelude.{◌≡◌, get_or};
 ghost use Rattle.format.specs.Refusals.{paper};
@@ -8,7 +9,7 @@ ghost use Rattle.format.specs.Opening.{column_of};
 ghost use Rattle.format.specs.Varint.{first_of};
 
 // Why a call refuses: a case for each number, with what it also returns (specs/Refusals.antt has the table).
-#[derive(Drop)]
+#[derive(Clone, Copy)]
 pub enum Refusal {
     TooManyValues,
     UnknownCodec { place: usize },
@@ -91,7 +92,7 @@ impl Refusal {
 }
 
 // Statistics of a list of values.
-#[derive(Drop)]
+#[derive(Clone, Copy)]
 pub struct ColumnStats {
     pub minimum: u64,
     pub maximum: u64,
@@ -101,14 +102,14 @@ pub struct ColumnStats {
 
 // A line in whole numbers: the slope has 32 bits after the point.
 #[repr(C)]
-#[derive(Drop)]
+#[derive(Clone, Copy)]
 pub struct Line {
     pub slope: u64,
     pub intercept: u64,
 }
 
 // An opened column's codec, with that codec's own numbers.
-#[derive(Drop)]
+#[derive(Clone, Copy)]
 pub enum Codec {
     Bitpacked,
     Linear(Line, u8),
@@ -116,14 +117,14 @@ pub enum Codec {
 }
 
 // The rows of a column that are shown: `rows` of them, from the column's row `first` on.
-#[derive(Drop)]
+#[derive(Clone, Copy)]
 pub struct Window {
     pub first: u32,
     pub rows: u32,
 }
 
 // An opened column. Its packed area is `size` bytes from `start` on; its rows are read through its window.
-#[derive(Drop)]
+#[derive(Clone, Copy)]
 pub struct Column {
     pub minimum: u64,
     pub gcd: u64,
@@ -137,7 +138,7 @@ pub struct Column {
 
 // A block of a Blockwise column: its line, the width of its packed numbers, and its start byte, counted from the area's start.
 #[repr(C)]
-#[derive(Drop)]
+#[derive(Clone, Copy)]
 pub struct Block {
     pub line: Line,
     pub bits: u64,
@@ -152,7 +153,7 @@ pub fn block_count(rows: u32) -> usize
 }
 
 // Where a row's packed number stands: number `row`, of `bits` bits, of a run that starts at byte `start` of the area.
-#[derive(Drop)]
+#[derive(Clone, Copy)]
 pub struct Place {
     pub start: u64,
     pub row: u32,
@@ -160,17 +161,17 @@ pub struct Place {
 }
 
 // A row of a column's window, a row of the column, and a row of one block: three counts.
-#[derive(Drop)]
+#[derive(Clone, Copy)]
 pub struct WindowRow(pub u32);
 
-#[derive(Drop)]
+#[derive(Clone, Copy)]
 pub struct ColumnRow(pub u32);
 
-#[derive(Drop)]
+#[derive(Clone, Copy)]
 pub struct BlockRow(pub u32);
 
 // How numbers are spelled: each in as few bytes as it can be, or the first that is not at an offset.
-#[derive(Drop)]
+#[derive(Clone, Copy)]
 pub enum Spelling {
     Shortest,
     Longer { offset: usize },
@@ -189,7 +190,7 @@ impl Spelling {
 }
 
 // A number that was read from the bytes, the offset behind it, how many bytes it took, and how it is spelled.
-#[derive(Drop)]
+#[derive(Clone, Copy)]
 pub struct Field {
     pub value: u64,
     pub next: usize,
@@ -198,7 +199,7 @@ pub struct Field {
 }
 
 // A head that was read, the offset behind it, and how its numbers are spelled.
-#[derive(Drop)]
+#[derive(Clone, Copy)]
 pub struct Head {
     pub minimum: u64,
     pub gcd: u64,
@@ -231,7 +232,7 @@ impl Head {
 }
 
 // A line and a width that were read, the offset behind them, and how the line is spelled.
-#[derive(Drop)]
+#[derive(Clone, Copy)]
 pub struct Fields {
     pub line: Line,
     pub bits: u8,
@@ -241,7 +242,7 @@ pub struct Fields {
 
 // What the values of a column are. A list of them is lent as words: a signed number or a date by its two's complement bits, a float by
 // its bits, since a NaN's bits are no number of the language, a bool as 0 or any other word.
-#[derive(Drop)]
+#[derive(Clone, Copy)]
 pub enum Kind {
     U64,
     I64,
@@ -251,14 +252,14 @@ pub enum Kind {
 }
 
 // The first and the last stored number of a range.
-#[derive(Drop)]
+#[derive(Clone, Copy)]
 pub struct Range {
     pub low: u64,
     pub high: u64,
 }
 
 // The header of a recording of lookups: how many records it has, from which offset on, and how many row numbers, from which on.
-#[derive(Drop)]
+#[derive(Clone, Copy)]
 pub struct Recording {
     pub records: u32,
     pub start: u32,
@@ -267,7 +268,7 @@ pub struct Recording {
 }
 
 // A recorded lookup: its range of values, its rows, the place of its first row number in the list, and how many there are.
-#[derive(Drop)]
+#[derive(Clone, Copy)]
 pub struct Recorded {
     pub low: u64,
     pub high: u64,
@@ -280,63 +281,63 @@ pub struct Recorded {
 // What the entry points answer (specs/Refusals.antt says what each case means).
 
 // Statistics of a list.
-#[derive(Drop)]
+#[derive(Clone, Copy)]
 pub enum Stated {
     Stats(ColumnStats),
     Refused(Refusal),
 }
 
 // Opening: the column, and how its numbers are spelled; its blocks stand in the lent table.
-#[derive(Drop)]
+#[derive(Clone, Copy)]
 pub enum Opened {
     Column(Column, Spelling),
     Refused(Refusal),
 }
 
 // Narrowing a column's window: the column with the new window, or a refusal and the column as it was.
-#[derive(Drop)]
+#[derive(Clone, Copy)]
 pub enum Narrowed {
     Column(Column),
     Refused(Refusal, Column),
 }
 
 // Reading a row.
-#[derive(Drop)]
+#[derive(Clone, Copy)]
 pub enum RowRead {
     Value(u64),
     Refused(Refusal),
 }
 
 // The same of a column of signed numbers or dates,
-#[derive(Drop)]
+#[derive(Clone, Copy)]
 pub enum SignedRead {
     Value(i64),
     Refused(Refusal),
 }
 
 // of bools,
-#[derive(Drop)]
+#[derive(Clone, Copy)]
 pub enum FlagRead {
     Value(bool),
     Refused(Refusal),
 }
 
 // and of floats, each by its bits.
-#[derive(Drop)]
+#[derive(Clone, Copy)]
 pub enum FloatRead {
     Value(u64),
     Refused(Refusal),
 }
 
 // Storing a list, as writing, looking rows up and decoding a run do: how many entries now stand at the front of what was lent.
-#[derive(Drop)]
+#[derive(Clone, Copy)]
 pub enum Stored {
     Entries(usize),
     Refused(Refusal),
 }
 
 // Replaying recorded lookups: how many records were run. All agree, or the last that was run differs.
-#[derive(Drop)]
+#[derive(Clone, Copy)]
 pub enum Replayed {
     Agree { run: u32 },
     Differ { index: u32, run: u32 },
@@ -344,7 +345,7 @@ pub enum Replayed {
 }
 
 // Checking a column against a list: it is passed, or the first reason why not.
-#[derive(Drop)]
+#[derive(Clone, Copy)]
 pub enum Checked {
     Passed,
     Unopened(Refusal),
@@ -357,7 +358,7 @@ pub enum Checked {
 
 // What a part of a column's bytes is: a field of the head, of Linear's line or of a block by its number; the packed area; the bytes behind it; what is left over in
 // the footer, and the footer's length.
-#[derive(Drop)]
+#[derive(Clone, Copy)]
 pub enum PartName {
     Code,
     Minimum,
@@ -377,7 +378,7 @@ pub enum PartName {
 }
 
 // How a part is spelled: a varint, one byte, the footer's length in four; or bytes that are no one number.
-#[derive(Drop)]
+#[derive(Clone, Copy)]
 pub enum Shape {
     Varint,
     Byte,
@@ -388,7 +389,7 @@ pub enum Shape {
 }
 
 // A part: what it is, the offset of its first byte, how many bytes it has, and the number that they spell, 0 where they spell none.
-#[derive(Drop)]
+#[derive(Clone, Copy)]
 pub struct Part {
     pub name: PartName,
     pub first: usize,
@@ -397,7 +398,7 @@ pub struct Part {
 }
 
 // Where opening stops: the number of its refusal, the part that was being read, and the offset where that begins.
-#[derive(Drop)]
+#[derive(Clone, Copy)]
 pub struct Stop {
     pub number: u8,
     pub name: PartName,
@@ -405,7 +406,7 @@ pub struct Stop {
 }
 
 // The rows that own a bit of a byte: all from the first to the last, or none.
-#[derive(Drop)]
+#[derive(Clone, Copy)]
 pub enum Owners {
     Rows { first: u32, last: u32 },
     NoRow,
