@@ -11,9 +11,7 @@ use Rattle.format.specs.Packing.{bytes_num, num_of, rows_bits}
 use Rattle.format.proofs.Lists.{all_drop}
 use Rattle.format.proofs.Bits.{num_of-drop, rows_bits_bits, rows_bits-drop}
 use Rattle.format.proofs.Gathering.{bytes_num_past, num_of_bytes}
-use borrow.Author.Rules.{rules}
-use Rattle.bitpacker.proofs.fetch_last.Statement.{statement}
-use Rattle.bitpacker.proofs.fetch_last.Tie as tie
+use Rattle.bitpacker.proofs.fetch_last.Goals as goal
 
 -- the number of some bytes without the first k
 without : (k : ℕ) (l : List ℕ) → AllBelow 256 l → bytes_num l / 2 ^ (8 * k) ≡ bytes_num (drop k l)
@@ -35,35 +33,11 @@ by_eight l at h many near inside =
     ∙ without (at - start) (drop start l) (all_drop start l h)
     ∙ ap bytes_num (drop-drop (at - start) start l ∙ ap (λ (k : ℕ). drop k l) far ∙ sym few)
 
-returns : tie.Need-returns
+pub returns-then-area-at : goal.returns-then-area-at
+returns-then-area-at c = sym (bytes_num_past c.args.area.now c.args.at 8 c.if-area-at.true)
+
+pub returns : goal.returns
 returns c =
-    let a = c.before.before.args in
-    sym (bytes_num_past a.area.now a.at 8 c.if1.true)
-
-sub-start : tie.Need-overflow-sub-start
-sub-start c = search rules
-
-gather-requires : tie.Need-gather-requires
-gather-requires c κs = search rules
-
-sub-result : tie.Need-overflow-sub-result
-sub-result c = search rules
-
-mul-result : tie.Need-overflow-mul-result
-mul-result c = search rules
-
-shr-result : tie.Need-overflow-shr-result
-shr-result c = search rules
-
-returns-2 : tie.Need-returns-2
-returns-2 c =
-    let k = c.before.before in
-    let a = k.before.args in
-    let bytes : AllBelow 256 a.area.now = λ i h. (k.shared-slice-known.given i).fits in
-    ap (λ (x : ℕ). x / 2 ^ (8 * (a.at - (length a.area.now - 8)))) c.gather.ensures
-    ∙ by_eight a.area.now a.at bytes k.before.requires.0 k.before.requires.1 c.before.if1.false
-
-pub fetch-last-spec : {M : Type 1} → statement M
-fetch-last-spec =
-    tie.close
-    (tie.spec returns sub-start gather-requires sub-result mul-result shr-result returns-2)
+    let bytes : AllBelow 256 c.args.area.now = λ i h. (c.type_inv.area i).fits in
+    ap (λ (x : ℕ). x / 2 ^ (8 * (c.args.at - (length c.args.area.now - 8)))) c.gather.ensures
+    ∙ by_eight c.args.area.now c.args.at bytes c.requires.0 c.requires.1 c.if-area-at.false
