@@ -2,6 +2,8 @@
 //
 // Both ways go through a word of eight bytes. A packer fills one and stores it whole; a reader loads the eight bytes from
 // a row's first bit on, which hold all of a row of a legal width. That is why the widths 57 to 63 are left out.
+#![tactic(auto)]
+
 ghost use Rattle.std.specs.Prelude.{◌≡◌, true, List, [], ◌++◌, ℕ, ◌+◌, ◌-◌, ◌*◌, ◌/◌, ◌%◌, ◌^◌, ◌≤◌, ◌<◌, length, take, drop, leb};
 ghost use Rattle.format.specs.Word.{bytes_for};
 ghost use Rattle.format.specs.Packing.{width, legal, bits_of, bytes_of, packed, bytes_num, num_bytes, unpack};
@@ -41,7 +43,7 @@ fn put(out: &mut [u8], at: usize, word: u64, n: usize)
 
 // Numbers on their way into bytes: `at` bytes stand written, a word of eight at a time, and `held` bits, fewer than 64,
 // wait in `hold` for their word to fill.
-#[derive(Drop)]
+#[derive(Clone, Copy)]
 pub struct BitPacker {
     pub at: usize,
     pub held: u32,

@@ -166,6 +166,10 @@ le_values (fin false m e) (fin false n g) a c b d C D v w =
     ∙ leb_same (m * up e * down g) (n * up g * down e) (a * d) (b * c)
     (transfer a b c d (m * up e) (n * up g) (down e) (down g) (down_pos e) (down_pos g) (sym v.1) (sym w.1))
     (transfer (m * up e) (n * up g) (down e) (down g) a b c d C D v.1 w.1)
+le_values nan y a c b d C D v w = elim v [ ]
+le_values (inf _) y a c b d C D v w = elim v [ ]
+le_values (fin false m e) nan a c b d C D v w = elim w [ ]
+le_values (fin false m e) (inf _) a c b d C D v w = elim w [ ]
 
 -- the f32 of some sound bits: 24 bits and an exponent
 fields_value : (x t : ℕ) → x < 254 → HasValue (of_fields binary32 false (suc x) t) false ((2 ^ 23 + t) * 2 ^ x) (2 ^ 149)
@@ -230,6 +234,8 @@ eighth (fin true m e) p v = absurd (true≢false v.0)
 eighth (fin false m e) p v =
     round_same binary32 false (m * up e * 1) (8 * down e) p 8 (mul-pos (zero-lt-suc 7) (down_pos e)) (zero-lt-suc 7)
     (ap (λ (z : ℕ). z * 8) v.1 ∙ mul_assoc p (down e) 8 ∙ ap (λ (z : ℕ). p * z) (mul_comm (down e) 8))
+eighth nan p v = elim v [ ]
+eighth (inf _) p v = elim v [ ]
 
 -- fewer than 2 ^ 24 units, and just so many
 eighth_few : (q t : ℕ) → q < 2 ^ 24 → t ≤ 100 → HasValue (round binary32 false (q * 2 ^ t) 8) false (q * 2 ^ t) 8
@@ -264,6 +270,8 @@ cut_is (fin false m e) p h v = capped (m * up e / down e) p h (div_same (m * up 
   where
     capped : (q p : ℕ) → p < 2 ^ 64 → q ≡ p / 8 → min q (2 ^ 64 - 1) ≡ p / 8
     capped q p h e = omega arith
+cut_is nan p h v = elim v [ ]
+cut_is (inf _) p h v = elim v [ ]
 
 -- it is defined: the number is above -1 and below 2 ^ 64
 pub cut_above : (x : Float) (p : ℕ) → HasValue x false p 8 → T (lt (fin true 1 (pos 0)) x)
@@ -273,6 +281,8 @@ cut_above (fin false m e) p v = lt→ltb 0 (1 * 1 * down e + m * up e * 1) (some
   where
     some : (d n : ℕ) → 0 < d → 0 < 1 * 1 * d + n * 1
     some d n p = omega arith
+cut_above nan p v = elim v [ ]
+cut_above (inf _) p v = elim v [ ]
 
 pub cut_below : (x : Float) (p : ℕ) → p < 2 ^ 64 → HasValue x false p 8 → T (lt x (fin false 1 (pos 64)))
 unfolding lt
@@ -283,3 +293,5 @@ cut_below (fin false m e) p h v =
   where
     less : (a b c : ℕ) → a * 8 ≡ b → b < c → a * 1 < c
     less a b c e l = omega arith
+cut_below nan p h v = elim v [ ]
+cut_below (inf _) p h v = elim v [ ]

@@ -1,4 +1,6 @@
 // What f32 makes of 64-bit numbers: a number as f32, which the language casts to only where nothing is lost, and the saving of a gcd. Each function rounds once.
+#![tactic(auto)]
+
 pub mod saving;
 
 ghost use Rattle.std.specs.Prelude.{◌≡◌, ◌*◌, ◌^◌, ◌<◌, pos};

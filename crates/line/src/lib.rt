@@ -1,4 +1,6 @@
 // A line over row numbers in whole numbers modulo 2^64, its training on a list of values, and its bytes.
+#![tactic(auto)]
+
 ghost use Rattle.std.specs.Prelude.{◌≡◌, [], ◌∷◌, ◌++◌, ◌+◌, ◌≤◌, ◌<◌, length};
 ghost use Rattle.format.specs.Outcome.{Wrote};
 ghost use Rattle.format.specs.Word.{mod_sub};
@@ -110,7 +112,7 @@ pub fn write(out: &mut [u8], at: usize, l: Line) -> usize
 }
 
 // What reading a line and its width finds.
-#[derive(Drop)]
+#[derive(Clone, Copy)]
 pub enum FieldsRead {
     Fields(Fields),
     Refused(Refusal),

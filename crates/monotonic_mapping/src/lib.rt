@@ -1,5 +1,7 @@
 // Signed numbers, dates, bools and floats as stored numbers: one value of a lent list, a row's answer and a list read back, and the range of stored
 // numbers that a lookup by values goes by.
+#![tactic(auto)]
+
 ghost use Rattle.std.specs.Prelude.{◌≡◌};
 ghost use Rattle.format.specs.Typed.{stored_signed, stored_float, flag_range};
 ghost use Rattle.monotonic_mapping.specs.Words.{word_of};

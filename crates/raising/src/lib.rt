@@ -1,5 +1,7 @@
 // Numbers of a chunk's rows made into values in place. A first loop goes over the whole chunk with no way out but its end and no comparison, so that the compiler works on two
 // rows at once; the top bit of one word tells whether a row may be out of bounds. Only then does a second one look for the first such row.
+#![tactic(auto)]
+
 ghost use Rattle.std.specs.Prelude.{◌≡◌, true, ℕ, ◌+◌, ◌*◌, ◌^◌, ◌≤◌, ◌<◌};
 ghost use Rattle.format.specs.declared.Line.{Line};
 ghost use Rattle.format.specs.Line.{line_at};

@@ -1,4 +1,6 @@
 // The head of a column, which holds its statistics, and what is worked out of them: the bounds, and the value so many steps above the least.
+#![tactic(auto)]
+
 ghost use Rattle.std.specs.Prelude.{◌≡◌, ◌+◌, ◌*◌, ◌^◌, ◌≤◌, ◌<◌, ltb, length};
 ghost use Rattle.format.specs.Outcome.{Wrote};
 ghost use Rattle.format.specs.Refusals.{row_meaning};
@@ -72,7 +74,7 @@ pub fn scaled(column: Column, row: ColumnRow, multiple: u64) -> RowRead
 }
 
 // What reading a head finds.
-#[derive(Drop)]
+#[derive(Clone, Copy)]
 pub enum HeadRead {
     Head(Head),
     Refused(Refusal),

@@ -1,4 +1,6 @@
 // The statistics of a list: least and greatest value, gcd of the differences, number of values.
+#![tactic(auto)]
+
 ghost use Rattle.std.specs.Prelude.{◌≡◌, true, ◌+◌, ◌^◌, ◌≤◌, ◌<◌, min, max, length};
 ghost use Rattle.format.specs.Stats.{gcd, distance, stats_of};
 ghost use Rattle.format.specs.Typed.{stored_as};
@@ -9,7 +11,7 @@ use format::{ColumnStats, Kind};
 use word::divisor::{Divisor, divides, ready};
 
 // What was seen of a list: the least and the greatest of its values before a place.
-#[derive(Drop)]
+#[derive(Clone, Copy)]
 struct Seen {
     lo: u64,
     hi: u64,

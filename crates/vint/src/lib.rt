@@ -2,6 +2,8 @@
 // offset, measured, and written.
 //
 // Reading takes spellings that are longer than they need be, of up to ten bytes, and says so; writing gives the shortest.
+#![tactic(auto)]
+
 ghost use Rattle.std.specs.Prelude.{◌≡◌, ◌+◌, ◌^◌, ◌≤◌, ◌<◌, length};
 ghost use Rattle.format.specs.Outcome.{Wrote};
 ghost use Rattle.format.specs.Varint.{read_varint, spell};
@@ -11,7 +13,7 @@ use format::{Field, Refusal, Spelling};
 
 // What reading finds: the number with the offset behind it, the bytes it takes and how it is spelled, or the refusal of the field,
 // number 6 with its offset.
-#[derive(Drop)]
+#[derive(Clone, Copy)]
 pub enum VintRead {
     Value(Field),
     Refused(Refusal),

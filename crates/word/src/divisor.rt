@@ -6,7 +6,7 @@ ghost use Rattle.std.specs.Prelude.{◌≡◌, ◌/◌, ◌%◌, ◌<◌, true};
 ghost use Rattle.word.specs.Divisors.{Ready};
 
 // A divisor, the power of two in it, the inverse of what is left, and the largest number whose product with it has 64 bits.
-#[derive(Drop)]
+#[derive(Clone, Copy)]
 pub struct Divisor {
     pub by: u64,
     pub shift: u32,

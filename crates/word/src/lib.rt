@@ -1,5 +1,7 @@
 // Arithmetic on words: sums, differences and products modulo 2^64, as Rust's `wrapping_add` and its kin compute them, and
 // what else of Rust's integers is not there as a function.
+#![tactic(auto)]
+
 pub mod divisor;
 
 ghost use Rattle.std.specs.Prelude.{◌≡◌, ◌+◌, min, max, nat_le};

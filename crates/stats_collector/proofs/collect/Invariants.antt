@@ -1,0 +1,10 @@
+use Prim.Native.Nat.{◌-◌}
+use Rattle.format.specs.Typed.{stored_as}
+use Rattle.stats_collector.specs.Rests.{Rest}
+use Rattle.stats_collector.proofs.collect.Given as goal
+
+abbrev pub invariant-loop-seen : goal.invariant-loop-seen
+invariant-loop-seen l = Rest (stored_as l.kind l.values) l.first l.g.by l.seen
+
+abbrev pub decreases-loop-seen : goal.decreases-loop-seen
+decreases-loop-seen l = l.n - l.seen.next
