@@ -1,4 +1,6 @@
 // Writing: the estimate, and the body. A value is read as the number that its kind is stored as.
+#![tactic(auto)]
+
 ghost use Rattle.std.specs.Prelude.{◌≡◌, map, ◌++◌, ◌+◌, ◌*◌, ◌≤◌, length, drop};
 ghost use Rattle.format.specs.Outcome.{Wrote};
 ghost use Rattle.format.specs.Word.{bytes_for};

@@ -1,4 +1,6 @@
 // Writing: the estimate, the sizes of all blocks, and the body. A value is read as the number that its kind is stored as.
+#![tactic(auto)]
+
 ghost use Rattle.std.specs.Prelude.{◌≡◌, ◌++◌, map, ◌+◌, ◌-◌, ◌/◌, ◌^◌, ◌≤◌, ◌<◌, min as lesser, length, take, drop};
 ghost use Rattle.std.proofs.Math.Option.{some};
 ghost use Rattle.format.specs.Outcome.{Wrote};
@@ -15,21 +17,21 @@ ghost use Rattle.blockwise_estimator.specs.Writer.{normals, part_of, Above, Part
 use format::{ColumnStats, Kind, Line};
 
 // A block's line, and the width of its residuals.
-#[derive(Drop)]
+#[derive(Clone, Copy)]
 struct Fit {
     line: Line,
     bits: u8,
 }
 
 // Bytes that blocks take in the area and in the footer.
-#[derive(Drop)]
+#[derive(Clone, Copy)]
 pub struct Sizes {
     pub area: usize,
     pub footer: usize,
 }
 
 // Where the next block's bytes go.
-#[derive(Drop)]
+#[derive(Clone, Copy)]
 struct Fronts {
     area: usize,
     footer: usize,

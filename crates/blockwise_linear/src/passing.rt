@@ -9,7 +9,7 @@ use crate::reader::{Cursor, NO_BLOCK};
 use format::Block;
 
 // How many blocks were passed, the last of them, and the place behind it.
-#[derive(Drop)]
+#[derive(Clone, Copy)]
 pub struct Pass {
     pub count: usize,
     pub block: Block,

@@ -25,7 +25,7 @@ pub(crate) const NO_BLOCK: Block = Block {
 
 // A place in the footer: the offset of the next block's fields, the byte of the area where that block starts, and the rows
 // from it on.
-#[derive(Drop)]
+#[derive(Clone, Copy)]
 pub struct Cursor {
     pub at: usize,
     pub start: usize,
@@ -33,7 +33,7 @@ pub struct Cursor {
 }
 
 // A block, the place behind it, and how its fields are spelled.
-#[derive(Drop)]
+#[derive(Clone, Copy)]
 pub struct Step {
     pub block: Block,
     pub next: Cursor,
@@ -41,14 +41,14 @@ pub struct Step {
 }
 
 // What reading a block finds.
-#[derive(Drop)]
+#[derive(Clone, Copy)]
 pub enum StepRead {
     Step(Step),
     Refused(Refusal),
 }
 
 // What checking all blocks finds: how many bytes their area takes, and how their fields are spelled.
-#[derive(Drop)]
+#[derive(Clone, Copy)]
 pub enum AreaRead {
     Area(usize, Spelling),
     Refused(Refusal),
@@ -225,7 +225,7 @@ pub fn next_block(bytes: &[u8], c: Cursor) -> Step
 
 // The end of a footer: the width of the last block, 0 where there is none, the offset behind its fields, and where the footer
 // starts and ends.
-#[derive(Drop)]
+#[derive(Clone, Copy)]
 pub struct Last {
     pub bits: u8,
     pub at: usize,
@@ -234,7 +234,7 @@ pub struct Last {
 }
 
 // What reading a footer's end finds.
-#[derive(Drop)]
+#[derive(Clone, Copy)]
 pub enum LastRead {
     Last(Last),
     Refused(Refusal),

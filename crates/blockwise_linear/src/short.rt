@@ -15,7 +15,7 @@ use crate::reader::{Cursor, Step};
 use format::{Block, Line, Spelling};
 
 // A number and the offset behind it, where there is one.
-#[derive(Drop)]
+#[derive(Clone, Copy)]
 struct Number {
     there: bool,
     value: u64,
@@ -23,7 +23,7 @@ struct Number {
 }
 
 // A block's line and width and the offset behind them, likewise.
-#[derive(Drop)]
+#[derive(Clone, Copy)]
 struct Entry {
     there: bool,
     slope: u64,
@@ -33,7 +33,7 @@ struct Entry {
 }
 
 // A block and the place behind it, likewise.
-#[derive(Drop)]
+#[derive(Clone, Copy)]
 pub(crate) struct Passed {
     pub there: bool,
     pub slope: u64,

@@ -1,2 +1,4 @@
 // The rows of a Blockwise column, each by its block.
+#![tactic(auto)]
+
 pub mod reader;

@@ -11,7 +11,7 @@ ghost use Rattle.blockwise_rows.specs.Reader.{Readable, numbers_start};
 use format::{Block, BlockRow, Column, ColumnRow, Line, RowRead};
 
 // A row of the column by its block: the block's number, and the row's within it.
-#[derive(Drop)]
+#[derive(Clone, Copy)]
 pub struct InBlock {
     pub block: usize,
     pub row: BlockRow,

@@ -1,4 +1,6 @@
 // Writing: the fit, the estimate that it gives, and the body. A value is read as the number that its kind is stored as.
+#![tactic(auto)]
+
 ghost use Rattle.std.specs.Prelude.{◌≡◌, ◌++◌, ◌+◌, ◌*◌, ◌≤◌, ◌<◌, length, drop};
 ghost use Rattle.format.specs.Outcome.{Wrote};
 ghost use Rattle.format.specs.Word.{mod_add, mod_sub, bytes_for};
@@ -18,14 +20,14 @@ use format::{ColumnStats, Kind, Line};
 const HALF: u64 = 0x7fff_ffff_ffff_ffff;
 
 // The least and the greatest deviation of some values.
-#[derive(Drop)]
+#[derive(Clone, Copy)]
 struct Spread {
     low: u64,
     high: u64,
 }
 
 // The final line, which no value lies under, and the width of what is left above it.
-#[derive(Drop)]
+#[derive(Clone, Copy)]
 pub struct Fit {
     pub line: Line,
     pub bits: u8,
