@@ -235,16 +235,16 @@ size_in : Option Sized → Option ℕ
 size_in none = none
 size_in (some a) = some a.size
 
-size_in : (code : ℕ) (o : Option ℕ) → size_in (sized code o) ≡ o
+size_in_lem : (code : ℕ) (o : Option ℕ) → size_in (sized code o) ≡ o
 unfolding size_in
-size_in code none = refl
-size_in code (some n) = refl
+size_in_lem code none = refl
+size_in_lem code (some n) = refl
 
 module _ (s : ColumnStats) (vs : List ℕ) (code : ℕ) {b : Best} (best : Stands vs (sized_by s vs code) b) where
   pub size_none : b ≡ Nothing → none ≡ size_of code s vs
   unfolding size_in
-  size_none is = ap (λ (b : Best). size_in (best_meaning b)) (sym is) ∙ ap size_in best.means ∙ size_in code (size_of code s vs)
+  size_none is = ap (λ (b : Best). size_in (best_meaning b)) (sym is) ∙ ap size_in best.means ∙ size_in_lem code (size_of code s vs)
 
   pub size_some : {codec : Codec} {size : ℕ} → b ≡ Least codec size → some size ≡ size_of code s vs
   unfolding size_in
-  size_some is = ap (λ (b : Best). size_in (best_meaning b)) (sym is) ∙ ap size_in best.means ∙ size_in code (size_of code s vs)
+  size_some is = ap (λ (b : Best). size_in (best_meaning b)) (sym is) ∙ ap size_in best.means ∙ size_in_lem code (size_of code s vs)

@@ -1,5 +1,6 @@
 -- The sizes as they are worked out are those that the choice goes by.
---     sized_0, sized_1, unsized_1, sized_2      a codec with its size, or Linear where it does not apply
+--     sized_0, sized_1, unsized_1, unsized_stored, sized_2
+--                                               a codec with its size, or Linear where it does not apply
 --     needed_0, needed_1, needed_2              the length that a column needs, from the length of its body
 --     bodies                                    the bodies of values by their own statistics
 -- Assumes nothing.
@@ -12,12 +13,15 @@ use borrow.Author.Tests.{lt-ltb, le-ltb}
 use lib.ListN.{length}
 use Rattle.format.specs.declared.Codec.TheVariants.{Bitpacked, Linear, Blockwise}
 use Rattle.format.specs.declared.ColumnStats.{ColumnStats}
+use Rattle.format.specs.declared.Kind.{Kind}
 use Rattle.format.specs.Word.{bytes_for}
 use Rattle.format.specs.Packing.{width}
 use Rattle.format.specs.Stats.{stats_of, count_of, spell_head}
 use Rattle.format.specs.Line.{spell_line}
 use Rattle.format.specs.Bodies.{normalised, bitpacked, linear, blockwise, body}
 use Rattle.format.specs.Writing.{sized, size_of}
+use Rattle.format.specs.Typed.{stored_as}
+use Rattle.format.proofs.StoredLists.{stored-length}
 use Rattle.stats.specs.Asked.{Describes}
 use Rattle.bitpacked_estimator.proofs.Body as packed
 use Rattle.linear_estimator.specs.declared.Fit.{Fit}
@@ -46,6 +50,10 @@ module _ (s : ColumnStats) (vs : List ℕ) where
 
   pub sized_2 : (code n : ℕ) → (code ≡ 0 → ⊥) → (code ≡ 1 → ⊥) → code ≤ 2 → some n ≡ size_of 2 s vs → Stands vs (sized_by s vs code) (Least Blockwise n)
   sized_2 code n not_0 not_1 h e = rw (third code not_0 not_1 h) (record { means = ap (sized 2) e; apt = tt })
+
+-- the same of values of a kind
+pub unsized_stored : (s : ColumnStats) (k : Kind) (ws : List ℕ) → length ws < 512 → Stands (stored_as k ws) (sized_by s (stored_as k ws) 1) Nothing
+unsized_stored s k ws h = unsized_1 s (stored_as k ws) (rw (stored-length k ws) h)
 
 -- ---- the length that a column needs
 

@@ -12,28 +12,28 @@ ghost use Rattle.write_codec.specs.Choice.{place_meaning, best_meaning, Apt, Sta
 use format::{Codec, ColumnStats, Kind};
 
 // A place in the list.
-#[derive(Drop)]
+#[derive(Clone, Copy)]
 pub enum Place {
     At(usize),
     Nowhere,
 }
 
 // The best codec of some, with its size. Linear comes with the line and the width that it was sized by.
-#[derive(Drop)]
+#[derive(Clone, Copy)]
 pub enum Best {
     Nothing,
     Least { codec: Codec, size: u64 },
 }
 
 // The codec of a choice, if one applies.
-#[derive(Drop)]
+#[derive(Clone, Copy)]
 pub enum Choice {
     Nothing,
     By(Codec),
 }
 
 // The codecs that a walk over the list has met.
-#[derive(Drop)]
+#[derive(Clone, Copy)]
 struct Met {
     bitpacked: bool,
     linear: bool,
@@ -41,7 +41,7 @@ struct Met {
 }
 
 // Where such a walk stands.
-#[derive(Drop)]
+#[derive(Clone, Copy)]
 struct Walk {
     best: Best,
     met: Met,
@@ -78,6 +78,7 @@ fn smaller_of(a: Best, b: Best) -> Best
 }
 
 // Linear with its size, where it applies.
+#[tactic(auto, using(crate::proofs::Sizes::unsized_stored))]
 fn sized_linear(kind: Kind, values: &[u64], stats: ColumnStats) -> Best
     requires { Describes stats (stored_as kind values.now) }
     ensures { Stands (stored_as kind values.now) (sized_by stats (stored_as kind values.now) 1) result }
@@ -196,6 +197,7 @@ fn choose(kind: Kind, values: &[u64], stats: ColumnStats, codecs: &[u8]) -> Best
 }
 
 // Whether a list is told to hold Blockwise alone; one that is told does.
+#[tactic(auto, using(crate::proofs::Choosing::alone))]
 fn only_blockwise(codecs: &[u8]) -> bool
     ensures { result ≡ true → codecs.now ≡ 2 ∷ [] }
 {
