@@ -10,9 +10,7 @@ use lib.Dec.{leb, eqb}
 use borrow.Author.Tests.{le-leb, lt-leb, eq-eqb, ne_eqb}
 use Rattle.format.proofs.Lists.{below_or}
 use Rattle.format.proofs.Widths.{legal_most}
-use borrow.Author.Rules.{rules}
-use Rattle.read_row.proofs.reader.ends_inside.Statement.{statement}
-use Rattle.read_row.proofs.reader.ends_inside.Tie as tie
+use Rattle.read_row.proofs.reader.ends_inside.Goals as goal
 
 module _ (start row bits size : ℕ) (some : bits ≡ 0 → ⊥) where
   -- a run behind the area's end is not inside
@@ -31,37 +29,18 @@ module _ (start row bits size : ℕ) (some : bits ≡ 0 → ⊥) where
       le-leb ((end + 7) / 8) (size - start) fits ∙ sym (le-leb (8 * start + end) (8 * size) (omega arith)))
       (below_or (size - start) ((end + 7) / 8)))
 
--- the entry of the function
-abbrev start : tie.Else2 → tie.Start
-start c = c.before.before.before.before
+pub returns-then-place-eq0 : goal.returns-then-place-eq0
+returns-then-place-eq0 c = rw (eq-eqb _ _ c.if-place-eq0.true)
+
+pub returns-then-area-place : goal.returns-then-area-place
+returns-then-area-place c = before_start _ _ _ _ c.if-place-eq0.false c.if-area-place.true
 
 -- a row of a legal width ends before bit 2^38 of its run
-end_small : (c : tie.Else2) → ((start c).args.place.row + 1) * (start c).args.place.bits ≤ 2 ^ 38
-end_small c =
-    let p = (start c).args.place in
-    omega (arith, mul-le-mul_left (p.row + 1) (legal_most p.bits (start c).requires))
+pub overflow_mul-end : goal.overflow_mul-end
+overflow_mul-end c = record { fits = omega (arith, mul-le-mul_left (c.args.place.row + 1) (legal_most c.args.place.bits c.requires)) }
 
-returns : tie.Need-returns
-returns c = rw (eq-eqb _ _ c.if1.true)
+pub overflow_add-result : goal.overflow_add-result
+overflow_add-result c = record { fits = omega (arith, mul-le-mul_left (c.args.place.row + 1) (legal_most c.args.place.bits c.requires)) }
 
-returns-2 : tie.Need-returns-2
-returns-2 c = before_start _ _ _ _ c.before.before.if1.false c.if2.true
-
-cast-end : tie.Need-overflow-cast-end
-cast-end c = search rules
-
-add-end : tie.Need-overflow-add-end
-add-end c = search rules
-
-mul-end : tie.Need-overflow-mul-end
-mul-end c = record { fits = omega (arith, end_small c.before.before) }
-
-add-result : tie.Need-overflow-add-result
-add-result c = record { fits = omega (arith, end_small c.before.before) }
-
-returns-3 : tie.Need-returns-3
-returns-3 c = by_bytes _ _ _ _ c.before.before.before.before.before.if1.false c.before.before.before.if2.false
-
-pub ends-inside-spec : {M : Type 1} → statement M
-ends-inside-spec =
-    tie.close (tie.spec returns returns-2 cast-end add-end mul-end add-result returns-3)
+pub returns : goal.returns
+returns c = by_bytes _ _ _ _ c.if-place-eq0.false c.if-area-place.false
