@@ -6,7 +6,7 @@
 --     told-fits, looked                        a chunk whose last row has a value, and whose rows have values
 -- Assumes nothing.
 use Prim.Native.Nat.{ℕ, zero, suc, ◌+◌, ◌-◌, ◌*◌, ◌%◌, ◌^◌, ◌≤◌, ◌<◌}
-use mathlib.Core.Path.{◌≡◌, refl, sym, ◌∙◌}
+use mathlib.Core.Path.{◌≡◌, refl, sym, ◌∙◌, subst}
 use mathlib.Core.Bool.{Bool, true, false}
 use mathlib.Core.Logic.{inl, inr, ⊎_elim}
 use mathlib.Core.List.{List, [], ◌∷◌}
@@ -127,7 +127,9 @@ module _ (col : Column) (b : Block) (s : List ℕ) (r n : ℕ) where
   pub multiples_stand : (plain : Column) {k m : ℕ} {list : List ℕ} → plain ≡ multiples_of col → Counted col.codec → FilledAs (read_run (value_at plain b s) r k) m r list → k ≡ n → length list ≡ k → m ≡ n → Stands col b s r n
   multiples_stand plain {k} {m} {list} is codec f size long all =
       by_multiples codec
-      (λ x low high. rw (← is) (valued_each (value_at plain b s) r k list (sym (rw (le-ltb m (length list) (omega arith)) at f.answer)) x low (omega arith)))
+      (λ x low high.
+      subst (λ (c : Column). Valued (value_at c b s x)) is
+      (valued_each (value_at plain b s) r k list (sym (rw (le-ltb m (length list) (omega arith)) at f.answer)) x low (omega arith)))
 
   -- what fits still fits
   fit : Fitting col (place_of col b r) s → 1 < col.gcd → Fitting (multiples_of col) (place_of (multiples_of col) b r) s

@@ -1,4 +1,6 @@
 // Looking at a chunk whose values are not asked for: where no number of a row's width can bring a value out of bounds, the bits are not read at all.
+#![tactic(auto)]
+
 ghost use Rattle.std.specs.Prelude.{◌≡◌, true, ◌+◌, ◌*◌, ◌%◌, ◌^◌, ◌≤◌, ◌<◌};
 ghost use Rattle.format.specs.Packing.{width};
 ghost use Rattle.format.specs.Reading.{place_of, row_in};

@@ -1,5 +1,7 @@
 // Rows a chunk at a time, behind the entry points: a chunk's size, what is done with its values, and `taking`, a chunk up to its first refused row. The table is not looked into here: a chunk
 // comes with its block.
+#![tactic(auto)]
+
 ghost use Rattle.std.specs.Prelude.{◌≡◌, ◌+◌, ◌≤◌, min, length};
 ghost use Rattle.std.proofs.lemmas.List.Edits.{sets};
 ghost use Rattle.format.specs.Lookup.{within};

@@ -8,7 +8,7 @@ use format::{Block, Column, Refusal, RowRead, WindowRow};
 use read_row::reader::Decoded;
 
 // So many rows of a chunk read as values: all of its rows, or those before the one that is refused.
-#[derive(Drop)]
+#[derive(Clone, Copy)]
 pub enum Stretch {
     Whole(usize),
     Stopped(usize, Refusal),

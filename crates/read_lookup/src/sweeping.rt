@@ -16,7 +16,7 @@ use read_row::reader::Decoded;
 use read_walk::Walk;
 
 // How a sweep ends: the rows before one are done, and so many of them found; or at a refused row.
-#[derive(Drop)]
+#[derive(Clone, Copy)]
 pub enum Swept {
     To(u32, usize),
     Refused(Refusal),

@@ -3,3 +3,4 @@
 -- a row
 pub mod Fitting
 pub mod Moving
+pub mod Counted

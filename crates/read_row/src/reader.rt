@@ -168,7 +168,7 @@ pub fn row_in(column: Column, blocks: usize, block: Block, bytes: &[u8], row: Wi
 }
 
 // What decoding a chunk finds: the values of its rows, which fill the list, or its first refused row.
-#[derive(Drop)]
+#[derive(Clone, Copy)]
 pub enum Decoded {
     Whole,
     Refused(Refusal),

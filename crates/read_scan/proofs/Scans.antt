@@ -161,7 +161,7 @@ module _ (test : ℕ → Bool) where
   gather_over {values} {row} {list} {n} {i} (suc k) f h bare =
       let far : i + 1 + k ≡ i + suc k = omega arith in
       let past : Gathering test values row list n (i + 1) = gather_past f (omega (arith, f.long)) (ap test (sym (f.unread i (le_refl i))) ∙ bare i (le_refl i) (omega arith)) in
-      let rest : Gathering test values row list n (i + 1 + k) = gather_over k past (omega arith) (λ j low high. bare j (omega arith) (omega arith)) in
+      let rest : Gathering test values row list n (i + 1 + k) = gather_over {i = i + 1} k past (omega arith) (λ j low high. bare j (omega arith) (omega arith)) in
       rw far at rest
 
   -- a part of it, by a loop over the values

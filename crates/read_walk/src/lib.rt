@@ -1,6 +1,8 @@
 // A walk over the rows from `first` to `end`, chunk by chunk, in two passes: the first sees that no row is refused and counts what is to be stored, the second
 // stores. A run that lies in one chunk needs no first pass: where it is refused, nothing was stored. The table is looked into by the entry points; here a
 // chunk comes with its block.
+#![tactic(auto)]
+
 ghost use Rattle.std.specs.Prelude.{◌≡◌, false, List, ℕ, ◌+◌, ◌/◌, ◌%◌, ◌^◌, ◌≤◌, ◌<◌, length};
 ghost use Rattle.std.proofs.lemmas.List.Edits.{sets};
 ghost use Rattle.format.specs.declared.Window.{Window};
@@ -15,7 +17,7 @@ use read_row::reader::Decoded;
 
 // A walk under way: in the pass at hand, the rows before `at` are done, and `n` entries were found for them. While it is going on, it stores or only looks; then
 // its answer stands. A lookup that has turned to its second pass has its answer before it is over. Row 0 is row `base` of the column.
-#[derive(Drop)]
+#[derive(Clone, Copy)]
 pub struct Walk {
     pub base: u32,
     pub first: u32,
