@@ -1,5 +1,7 @@
 // Opening a column, and the window of one that is open: the entry points that need no block table. No argument makes a call fail but by a numbered refusal, and each
 // contract says what a call answers. Those with a table stand in `table`.
+#![tactic(auto)]
+
 pub mod opening;
 
 ghost use Rattle.open_column.specs.Calls.{PlainAs, PlainUnderAs, NarrowedAs};
@@ -9,6 +11,7 @@ use stats::HeadRead;
 
 // Opens a column, for a table with room for so many blocks. All of opening's decisions fall here, on the bytes and the room
 // alone; the table itself is not needed for them.
+#[tactic(auto, using(crate::proofs::Opens::opened_none, crate::proofs::Opens::opened_unknown))]
 pub fn open_plain(bytes: &[u8], room: usize) -> Opened
     ensures { PlainAs bytes.now room result }
 {

@@ -1,5 +1,7 @@
 // What acceptance sheet 2 asks of a column that was opened: the first byte that offends it, by its spelling, by belonging to no part, or
 // by bits behind the last row's.
+#![tactic(auto)]
+
 ghost use Rattle.std.specs.Prelude.{◌≡◌, ◌*◌, ◌%◌, ◌<◌, length};
 ghost use Rattle.format.specs.Refusals.{opened_meaning};
 ghost use Rattle.format.specs.Sheets.{lower, longer, unclaimed, overfull, offending};
@@ -9,7 +11,7 @@ use blockwise_linear::reader::LastRead;
 use format::{Codec, Column, Opened, Refusal, Spelling};
 
 // An offset that offends, if there is one.
-#[derive(Drop)]
+#[derive(Clone, Copy)]
 pub enum Fault {
     Nowhere,
     At(usize),
@@ -149,6 +151,7 @@ pub fn strict(column: Column, spelling: Spelling, bytes: &[u8]) -> Opened
 
 // Internal: asks that a column in the answer has its area within the bytes. What an opening answered, under the sheet that the caller names: sheet 1 takes it as it is, sheet 2 asks what it asks
 // besides, and there is no other.
+#[tactic(auto, using(crate::proofs::SheetNumbers::under_none, crate::proofs::SheetNumbers::under_unknown))]
 pub fn under(sheet: u32, answer: Opened, bytes: &[u8]) -> Opened
     requires { AllWithin (opened_meaning answer) bytes.now }
     ensures { opened_meaning result ≡ under_as sheet bytes.now (opened_meaning answer) }
