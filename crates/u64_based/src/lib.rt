@@ -1,5 +1,7 @@
 // Writing a column of numbers of 64 bits: the statistics of values, their sizes by codec, and their bytes. No argument makes a call fail but by a numbered refusal, and each contract
 // says what a call answers and what every lent entry holds afterwards. Opening stands in `open_column`.
+#![tactic(auto)]
+
 ghost use Rattle.std.specs.Prelude.{◌≡◌, ◌≤◌};
 ghost use Rattle.format.specs.Typed.{stored_as};
 ghost use Rattle.format.specs.Writing.{size_of};
@@ -10,14 +12,14 @@ use format::{ColumnStats, Kind, Refusal, Stated, Stored};
 use write_codec::choice::{Best, Choice, Place};
 
 // What the choice compares of a codec, if the codec applies.
-#[derive(Drop)]
+#[derive(Clone, Copy)]
 pub enum Size {
     DoesNotApply,
     Bytes(u64),
 }
 
 // What the choice compares of each codec.
-#[derive(Drop)]
+#[derive(Clone, Copy)]
 pub enum Sizes {
     Of {
         bitpacked: Size,
