@@ -4,7 +4,7 @@
 --     nothings     what is left of n parameters of which nothing is said
 --     as_tokens, as_ownings, as_lefts      the chains are the kit's own
 --     hands, takes     the entries that a function is lent, and the kit's assertion of them.        comes, returns     those that it gives back, from the front of a context and to its end
--- Assumes nothing.
+-- Assumes `Logic`.
 use mathlib.Core.Path.{◌≡◌, refl, sym, subst, ap}
 use Prim.Native.Nat.{ℕ, zero, suc}
 use mathlib.Core.List.{List, [], ◌∷◌, ◌++◌}
@@ -34,7 +34,7 @@ module _ {M : Type 1} {𝓤 : Ura M} (𝓛 : Logic 𝓤) where
 
   abbrev pub ownings : (Ts : List RattleType) → Denots Ts → Valss Ts → Cx
   ownings [] a vss = []
-  ownings (T ∷ Ts) a vss = ‵ (T.own a.0 vss.0) ∷ ownings Ts a.1 vss.1
+  ownings (T ∷ Ts) a vss = ‵ (T.own_val a.0 vss.0) ∷ ownings Ts a.1 vss.1
 
   abbrev pub lefts : {n : ℕ} (κs : Lfts n) (ss : List (Slot n)) (ks : Kepts ss) (a : Denots (types_at ss κs)) → Fins κs ss ks a → Cx
   lefts κs [] ks a ws = []
@@ -70,7 +70,7 @@ module _ {M : Type 1} {𝓤 : Ura M} (𝓛 : Logic 𝓤) where
   as_ownings : (Ts : List RattleType) (a : Denots Ts) (vss : Valss Ts) → chain (ownings Ts a vss) ≡ sem 𝓛 (owns Ts a vss)
   unfolding chain
   as_ownings [] a vss = refl
-  as_ownings (T ∷ Ts) a vss = ap (λ (P : SProp 𝓤). sep 𝓤 (sem 𝓛 (T.own a.0 vss.0)) P) (as_ownings Ts a.1 vss.1)
+  as_ownings (T ∷ Ts) a vss = ap (λ (P : SProp 𝓤). sep 𝓤 (sem 𝓛 (T.own_val a.0 vss.0)) P) (as_ownings Ts a.1 vss.1)
 
   as_lefts : {n : ℕ} (κs : Lfts n) (ss : List (Slot n)) (ks : Kepts ss) (a : Denots (types_at ss κs)) (ws : Fins κs ss ks a) → chain (lefts κs ss ks a ws) ≡ sem 𝓛 (lasts_of κs ss ks a ws)
   unfolding chain

@@ -12,10 +12,10 @@ use mathlib.Core.Path.{◌≡◌, refl, subst, sym, ap}
 use Prim.Native.Nat.{ℕ}
 use mathlib.Core.List.{List, [], ◌∷◌, ◌++◌}
 use seplogic.Ra.Ura.{Ura}
-use seplogic.Ra.TreeShare.{full_share}
+use base.Fraction.{full_share}
 use lib.Dec.{T as So}
 use mathlib.Core.Option.{some as found}
-use mir.Syntax.{Name, Sym, Ty, Tys, ty_struct, Local, Place, place, field, Opd as Operand, copy, Body, Fn, seq, call}
+use mir.Syntax.{Callee, Sym, Ty, Tys, ty_struct, Local, Place, place, field, Opd as Operand, copy, Body, Fn, seq, call}
 use mir.Val.{Val, Vals as Vals', vstruct, WT, has_ty}
 use mir.Fields.{get_v}
 use base.Logic.{SProp, ent, sep, wand, ex, emp, id⊢, via, comm∗, emp∗, fst∗, snd∗, mono∗, mono_l, mono_r, wand_i, apply∗}
@@ -42,7 +42,7 @@ use denote.Triple.Clauses.{Ended, Clauses, Lasts, at_exit, lasts, ensured, closi
 use Rattle.proof_walk.proofs.Locals.{Spots, Fit, params, begun, env_of, laid, enters}
 use Rattle.proof_walk.proofs.Lending.{toks_of, own_of, left_of_lem, hands, takes, returns, comes}
 
-module _ {M : Type 1} {𝓤 : Ura M} {𝓛 : Logic 𝓤} {K : Type 0} {Γ : List (Item 𝓤)} {E : Env 𝓤 𝓛.H} {C : Calls 𝓤 𝓛.H} {Λ : Loops 𝓤 𝓛.H} {q : Post 𝓤 𝓛.H} {f : Name} {xs : List Operand} {d : Place} where
+module _ {M : Type 1} {𝓤 : Ura M} {𝓛 : Logic 𝓤} {K : Type 0} {Γ : List (Item 𝓤)} {E : Env 𝓤 𝓛.H} {C : Calls 𝓤 𝓛.H} {Λ : Loops 𝓤 𝓛.H} {q : Post 𝓤 𝓛.H} {f : Callee} {xs : List Operand} {d : Place} where
   open 𝓛 use {H}
 
   pub calls_last : K → FmC 𝓤 H 𝓛.laws C → (T : Ended) (c : Clauses 𝓤 T) → Triple 𝓤 (C f) (triple_of 𝓛 T.signature (closing 𝓛 T c))
@@ -68,7 +68,7 @@ module _ {M : Type 1} {𝓤 : Ura M} {𝓛 : Logic 𝓤} {K : Type 0} {Γ : List
           facts t (type_at T.signature.result x.0) (Is (type_at T.signature.result x.0)) (shows 𝓛 (type_at T.signature.result x.0)) r (u ∷ []) (λ is.
           regoal t (λ (v : Val). settles E d v q) (ap only (tells r (u ∷ []) is)) refl $ by t (via 𝓤 _ (mono_r 𝓤 (alive 𝓛 T.signature x.0 x.1) (pop 𝓛 (‵ (lasts T x.0 x.3 ws)) Δ)) (via 𝓤 _ (returns 𝓛 T x.0 x.1 x.3 Δ ws) (k r ws so (subst (Is (type_at T.signature.result x.0) r) (tells r (u ∷ []) is) is)).prf)))))))
 
-module _ {M : Type 1} {𝓤 : Ura M} {𝓛 : Logic 𝓤} {K : Type 0} {Γ : List (Item 𝓤)} {E : Env 𝓤 𝓛.H} {C : Calls 𝓤 𝓛.H} {Λ : Loops 𝓤 𝓛.H} {q : Post 𝓤 𝓛.H} {f : Name} {xs : List Operand} {d : Place} {rest : Body} where
+module _ {M : Type 1} {𝓤 : Ura M} {𝓛 : Logic 𝓤} {K : Type 0} {Γ : List (Item 𝓤)} {E : Env 𝓤 𝓛.H} {C : Calls 𝓤 𝓛.H} {Λ : Loops 𝓤 𝓛.H} {q : Post 𝓤 𝓛.H} {f : Callee} {xs : List Operand} {d : Place} {rest : Body} where
   open 𝓛 use {H}
 
   pub calls : K → FmC 𝓤 H 𝓛.laws C → (T : Ended) (c : Clauses 𝓤 T) → Triple 𝓤 (C f) (triple_of 𝓛 T.signature (closing 𝓛 T c))
