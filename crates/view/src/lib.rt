@@ -1,5 +1,7 @@
 // A view for those who write tools: a column's bytes together with its opened numbers, in place of three things in each call. It takes Bitpacked and Linear columns, which have no block table;
 // first stand the calls on plain parameters, then the view above them.
+#![tactic(auto)]
+
 ghost use Rattle.std.specs.Prelude.{◌≡◌};
 ghost use Rattle.format.specs.Refusals.{opened_meaning};
 ghost use Rattle.view.specs.Held.{for_view, column_or};
@@ -73,14 +75,14 @@ pub fn row_of(column: Column, bytes: &[u8], row: u32) -> RowRead
 }
 
 // A column's bytes and its opened numbers.
-#[derive(Drop)]
+#[derive(Clone, Copy)]
 pub struct View<'a> {
     pub bytes: &'a [u8],
     pub column: Column,
 }
 
 // What opening answers, and the view. (An enum cannot hold a reference: where opening refuses, the view's column has no rows.)
-#[derive(Drop)]
+#[derive(Clone, Copy)]
 pub struct Opening<'a> {
     pub answer: Opened,
     pub view: View<'a>,
