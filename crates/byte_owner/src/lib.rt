@@ -1,4 +1,6 @@
 // Which rows own a bit of a byte: a search, block after block. The blocks are fetched by whoever searches; here a block comes by value.
+#![tactic(auto)]
+
 ghost use Rattle.std.specs.Prelude.{◌≡◌, List, ◌+◌, ◌-◌, ◌*◌, ◌^◌, ◌<◌, min};
 ghost use Rattle.format.specs.Packing.{legal};
 ghost use Rattle.format.specs.Reading.{block_at};
@@ -9,14 +11,14 @@ ghost use Rattle.byte_owner.specs.Search.{ended, area_search, searched, Searchin
 use format::{Block, Codec, Column, Owners, Refusal};
 
 // The rows that own a bit of the byte at an offset.
-#[derive(Drop)]
+#[derive(Clone, Copy)]
 pub enum RowsRead {
     Owners(Owners),
     Refused(Refusal),
 }
 
 // A search for the rows of a byte of the area: the next block to ask, how many are left, and the answer if none of them has rows there.
-#[derive(Drop)]
+#[derive(Clone, Copy)]
 pub struct Search {
     pub next: usize,
     pub left: u32,

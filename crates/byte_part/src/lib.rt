@@ -1,5 +1,7 @@
 // What each byte of a column is: the parts one after another, and the part of an offset. The calls take an opened column with its bytes, and ask nothing of
 // them: what does not fit together at an offset is refused.
+#![tactic(auto)]
+
 mod measuring;
 pub mod naming;
 
@@ -12,28 +14,28 @@ use format::{Column, Part, Refusal};
 use naming::Name;
 
 // A place between parts: the number of the next part, and the offset where it begins. The first is part 0 at offset 0.
-#[derive(Drop)]
+#[derive(Clone, Copy)]
 pub struct Cursor {
     pub number: usize,
     pub at: usize,
 }
 
 // The next part and the place behind it; or no part is left.
-#[derive(Drop)]
+#[derive(Clone, Copy)]
 pub enum Walked {
     Part(Part, Cursor),
     Done,
 }
 
 // What a search for the part of an offset finds; the offset may lie behind all parts.
-#[derive(Drop)]
+#[derive(Clone, Copy)]
 pub enum Sought {
     Part(Part),
     Nothing,
 }
 
 // The part that holds the byte at an offset.
-#[derive(Drop)]
+#[derive(Clone, Copy)]
 pub enum PartRead {
     Part(Part),
     Refused(Refusal),

@@ -7,7 +7,7 @@ use format::{Codec, Column, Part, PartName, Shape};
 use vint::VintRead;
 
 // A part's bytes and number.
-#[derive(Drop)]
+#[derive(Clone, Copy)]
 pub struct Measured {
     pub bytes: usize,
     pub value: u64,

@@ -9,7 +9,7 @@ ghost use Rattle.format.specs.declared.PartName.TheVariants.{Area, Behind, Slope
 use format::{Codec, PartName, Shape};
 
 // A name, or none: the number is past the last part's.
-#[derive(Drop)]
+#[derive(Clone, Copy)]
 pub enum Name {
     Part(PartName),
     Nothing,

@@ -13,7 +13,7 @@ use blockwise_linear::reader::Cursor;
 use format::{Head, PartName, Stop};
 
 // The bytes of all blocks' area, or where reading the blocks' fields stops.
-#[derive(Drop)]
+#[derive(Clone, Copy)]
 pub enum AreaReach {
     Area(usize),
     Stop(Stop),

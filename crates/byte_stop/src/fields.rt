@@ -8,21 +8,21 @@ use format::{Fields, Head, Line, PartName, Refusal, Stop};
 use vint::VintRead;
 
 // A head, or where reading it stops.
-#[derive(Drop)]
+#[derive(Clone, Copy)]
 pub enum HeadReach {
     Head(Head),
     Stop(Stop),
 }
 
 // A line and its width, or where reading them stops.
-#[derive(Drop)]
+#[derive(Clone, Copy)]
 pub enum FieldsReach {
     Fields(Fields),
     Stop(Stop),
 }
 
 // The names of a line's two parts and of its width's.
-#[derive(Drop)]
+#[derive(Clone, Copy)]
 pub struct Names {
     pub slope: PartName,
     pub intercept: PartName,

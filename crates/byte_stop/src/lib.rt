@@ -1,5 +1,7 @@
 // Where opening stops: the part that was being read and the offset where it begins, for any bytes. The bytes are read once more in
 // opening's order, and every refusal on the way names its part.
+#![tactic(auto)]
+
 mod bodies;
 mod fields;
 pub mod numbers;
@@ -10,7 +12,7 @@ use fields::HeadReach;
 use format::{PartName, Stop};
 
 // Where a reading stops, if it does.
-#[derive(Drop)]
+#[derive(Clone, Copy)]
 pub enum Stopping {
     At(Stop),
     Nowhere,

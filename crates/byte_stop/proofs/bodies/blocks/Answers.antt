@@ -1,0 +1,23 @@
+-- `byte_stop::bodies::blocks` meets its contract, by what the loop keeps.
+-- Assumes nothing.
+use Rattle.std.proofs.Common.{sym}
+use Rattle.format.specs.declared.PartName.TheVariants.{BlockSlope, BlockIntercept, BlockWidth}
+use Rattle.blockwise_linear.specs.Reader.{up_to_length}
+use Rattle.byte_stop.proofs.Reaching.{fields_narrow}
+use Rattle.byte_stop.proofs.Blocking.{blocking_more, blocking_stops, blocking_ends}
+use Rattle.byte_stop.proofs.bodies.blocks.Goals as goal
+
+pub behind-c-requires : goal.behind-c-requires
+behind-c-requires c =
+    let k = c.loop-c.k in
+    (c.loop-c.invariant.small, fields_narrow (BlockSlope k) (BlockIntercept k) (BlockWidth k) (up_to_length c.args.bytes.now) c.loop-c.c.at _ (sym c.in-Fields.ensures))
+
+pub loop-c-preserved : goal.loop-c-preserved
+loop-c-preserved c =
+    blocking_more c.loop-c.invariant c.loop-c-test.true _ (sym c.in-Fields.ensures) c.behind-c.ensures.0 c.behind-c.ensures.1
+
+pub returns-in-Stop : goal.returns-in-Stop
+returns-in-Stop c = blocking_stops c.loop-c.invariant c.loop-c-test.true _ (sym c.in-Stop.ensures)
+
+pub returns : goal.returns
+returns c = blocking_ends c.loop-c.invariant c.loop-c-test.false
