@@ -1,4 +1,6 @@
 // What a recording holds: its header, its records and its row numbers, each looked at where it stands. A number that leaves the recording is 0, so no call asks for anything.
+#![tactic(auto)]
+
 ghost use Rattle.std.specs.Prelude.{◌≡◌, ◌&&◌, ◌||◌, ◌+◌, ◌*◌, ◌^◌, ◌<◌, leb, eqb};
 ghost use Rattle.format.specs.Replaying.{number_at, header_of, record_at, listed_at, apart, placed, regions, is_recording};
 

@@ -16,7 +16,7 @@ use read_row::reader::Decoded;
 use replay_recording::{header_of, is_recording, listed_at, record_at};
 
 // Record k is at hand: its rows before `at` are done, and the first n recorded ones were found among them. While the replay is going on there are rows left; then its answer stands.
-#[derive(Drop)]
+#[derive(Clone, Copy)]
 pub struct Walk {
     pub head: Recording,
     pub k: u32,
@@ -46,7 +46,7 @@ const NO_RECORDING: Recording = Recording {
 };
 
 // Whether rows that were found are the recorded ones so far, and how many recorded ones that makes.
-#[derive(Drop)]
+#[derive(Clone, Copy)]
 pub struct Met {
     pub same: bool,
     pub n: u32,
