@@ -10,7 +10,7 @@ use read_chunk::{chunk_size, cut};
 use read_row::reader::{Decoded, column_row, decode, row_in};
 
 // One side of a comparison: a column, with a block out of its table of so many.
-#[derive(Drop)]
+#[derive(Clone, Copy)]
 pub struct Side {
     pub column: Column,
     pub blocks: usize,
@@ -18,7 +18,7 @@ pub struct Side {
 }
 
 // So many rows were looked at, and the first of them have equal answers: all, or those before the first that differs.
-#[derive(Drop)]
+#[derive(Clone, Copy)]
 pub struct Looked {
     pub size: usize,
     pub equal: usize,

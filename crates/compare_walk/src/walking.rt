@@ -11,7 +11,7 @@ use format::{Block, Column, WindowRow};
 use read_row::reader::column_row;
 
 // The rows before `at` have equal answers. While the search is going on there are rows left, up to the end; then its answer stands.
-#[derive(Drop)]
+#[derive(Clone, Copy)]
 pub struct Walk {
     pub at: u32,
     pub end: u32,
