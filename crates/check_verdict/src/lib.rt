@@ -1,4 +1,6 @@
 // The verdict on a column that was opened, beside the list of values that it is to hold: it is passed, or the first reason why not.
+#![tactic(auto)]
+
 mod head;
 mod rows;
 

@@ -8,7 +8,7 @@ use format::Kind;
 use read_chunk::taking::{Stretch, values_of};
 
 // A walk over the rows: all before `at` are the list's values. It goes on while no other was met, up to a chunk that has no values.
-#[derive(Drop)]
+#[derive(Clone, Copy)]
 pub struct Walk {
     pub at: u32,
     pub going: bool,
