@@ -2,6 +2,8 @@
 // says what a call answers and what every lent entry holds afterwards.
 //
 // Only `fill` writes a table and only `block_at` reads one; the others pass it on.
+#![tactic(auto)]
+
 ghost use Rattle.std.specs.Prelude.{◌≡◌, ◌/◌, ◌%◌, ◌^◌, length};
 ghost use Rattle.format.specs.Outcome.{stored};
 ghost use Rattle.format.specs.Reading.{no_block, column_row};

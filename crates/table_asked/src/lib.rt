@@ -1,5 +1,7 @@
 // What else is asked of an opened column over its block table, a lent list of block records: recorded lookups, where it differs from another, whose a byte is, and whether it holds a list.
 // No argument makes a call fail, and each contract says what it answers and what the lent table holds afterwards.
+#![tactic(auto)]
+
 ghost use Rattle.std.specs.Prelude.{◌≡◌, List, length};
 ghost use Rattle.byte_owner.specs.Search.{searched, Searching};
 ghost use Rattle.table_asked.specs.Calls.{ReplaysAs, DiffersAs, RowsAs};
