@@ -1,5 +1,7 @@
 // Answers told as plain numbers, as the calls for Rust and C hand them over: each function puts the numbers of an answer into lent arrays, those of
 // the refusal always, the others where nothing is refused.
+#![tactic(auto)]
+
 pub mod checks;
 pub mod differs;
 pub mod replays;

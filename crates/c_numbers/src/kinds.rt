@@ -5,7 +5,7 @@ ghost use Rattle.c_numbers.specs.Kinds.{kind_from, known_meaning, kind_of, sheet
 use format::{Kind, Refusal};
 
 // A kind that a caller names by its number.
-#[derive(Drop)]
+#[derive(Clone, Copy)]
 pub enum Known {
     Kind(Kind),
     Refused(Refusal),

@@ -1,5 +1,7 @@
 // Columns and refusals as plain numbers, as the calls for Rust and C hand them over and take them. A refusal is two numbers, both 0 where nothing
 // is refused; an opened column is twelve; a longer spelling is its offset, 2^64 - 1 where there is none.
+#![tactic(auto)]
+
 pub mod kinds;
 pub mod parts;
 
@@ -100,7 +102,7 @@ fn counts_fit(numbers: &[u64; 12]) -> bool
 }
 
 // A column that a caller hands over as numbers.
-#[derive(Drop)]
+#[derive(Clone, Copy)]
 pub enum Made {
     Column(Column),
     Refused(Refusal),

@@ -1,4 +1,6 @@
 // The parts of a column one after another, as plain numbers: as many as a lent list has room for, and the place to go on from.
+#![tactic(auto)]
+
 ghost use Rattle.std.specs.Prelude.{◌+◌, ◌≤◌, ◌/◌, ◌≡◌, length};
 ghost use Rattle.std.proofs.lemmas.List.Edits.{sets};
 ghost use Rattle.c_numbers.specs.Explaining.{part_numbers};
@@ -10,7 +12,7 @@ use c_numbers::{ACCEPTED, Made, column_from, told};
 use format::{Column, Part, Refusal};
 
 // How many parts were put into a list, and the place behind them.
-#[derive(Drop)]
+#[derive(Clone, Copy)]
 pub struct Filled {
     pub parts: usize,
     pub behind: Cursor,

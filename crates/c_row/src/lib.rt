@@ -3,6 +3,8 @@
 //
 // What keeps it short when compiled: the codec is told apart first, a number is read between two tests, since two tests with none between them are made one branch of
 // more instructions, eight bytes are one sum of eight terms, and a width of 64 bits is a call of its own.
+#![tactic(auto)]
+
 ghost use Rattle.std.specs.Prelude.{◌≡◌, true, ℕ, ◌+◌, ◌*◌, ◌/◌, ◌%◌, ◌^◌, ◌≤◌, ◌<◌, length, take, drop, get_or};
 ghost use Rattle.format.specs.Outcome.{Outcome.value};
 ghost use Rattle.format.specs.Packing.{bit_length, width, legal, bytes_num};
@@ -11,7 +13,7 @@ ghost use Rattle.c_row.specs.Short.{row_of, Shown, Bounded, Raised, Stands};
 use format::{Block, Line};
 
 // A number, if one was found.
-#[derive(Drop)]
+#[derive(Clone, Copy)]
 pub struct Direct {
     pub found: bool,
     pub value: u64,

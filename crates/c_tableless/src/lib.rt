@@ -1,4 +1,6 @@
 // Calls on plain numbers that need no table, for `hulemartob`: a kind is its number, a column its twelve numbers. What is neither is refused before all else.
+#![tactic(auto)]
+
 pub mod sizes;
 
 ghost use Rattle.std.specs.Prelude.{◌≡◌, ◌/◌, length, get_or};
