@@ -4,6 +4,8 @@
 //
 // A call that is lent a table makes a column of its numbers, or one of no rows where they are none, is made with that column in any case, and has its
 // answer told by one call: the refusal of the numbers comes first.
+#![tactic(auto)]
+
 mod checks;
 mod differs;
 mod parts;
