@@ -17,7 +17,9 @@ pub fn put_text(out: &mut [u8], at: usize, s: &[u8]) -> usize
     requires { at + length s.now ≤ length out.old }
     ensures { Wrote out.old at s.now out.new result }
 {
-    at + bytes::copy(s, &mut out[at..])
+    let end = at + s.len();
+    out[at..end].copy_from_slice(s);
+    end
 }
 
 // Internal: asks for room for its digits. A number in decimal.

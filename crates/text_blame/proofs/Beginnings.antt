@@ -1,5 +1,5 @@
 -- How a blame begins, from what both openings found and the line that was written.
---     begun_only, begun_both      with the only line; with both columns
+--     begun_only, begun_both, begun_lengths      with the only line; with both columns; with the line of unequal lengths
 --     starts_opens                those are columns that were opened of their bytes
 --     starts-left, starts_right, starts_lengths, starts_field, starts_both         how it begins, by the tests
 -- Assumes nothing.
@@ -11,6 +11,7 @@ use native.Mathlib.Nat.{zero-add}
 use native.Mathlib.Omega.{arith}
 use lib.Dec.{eqb}
 use lib.ListN.{length}
+use borrow.Author.Tests.{ne_eqb}
 use Rattle.io.specs.Counts.{IsPrefixLen}
 use Rattle.format.specs.declared.Column.{Column}
 use Rattle.format.specs.declared.PartName.{PartName}
@@ -70,3 +71,8 @@ module _ (s t : List ℕ) where
 
       pub starts_both : eqb (length s) (length t) ≡ true → first_field (part_of s c) s t 0 (length s) ≡ Nothing → starts (opened_here s) (opened_here t) s t ≡ both c d
       starts_both e f = rw (u.opened, w.opened, e, u.column, w.column, f)
+
+-- unequal lengths, with the line that was written
+pub begun_lengths : (s t : List ℕ) {c d : Column} {old new : List ℕ} {n : ℕ} → Opens s c × Opens t d → (length s ≡ length t → ⊥)
+    → Wrote old 0 (lengths_line (length s) (length t)) new n → IsPrefixLen n new → BegunAs (starts (opened_here s) (opened_here t) s t) (Line n) old new
+begun_lengths s t opens apart wrote shown = begun_only (starts_lengths s t opens.0 opens.1 (ne_eqb _ _ apart)) wrote shown

@@ -2,6 +2,8 @@
 // bytes at a time as a lent buffer has room for; and how many bytes and rows there are. A side that does not open, unequal lengths and a field that
 // differs are a line of their own: then the bytes of the area do not tell which rows changed. No argument makes a call fail, and each contract says what
 // every lent entry holds afterwards.
+#![tactic(auto)]
+
 pub mod way;
 
 ghost use Rattle.format.specs.Listing.{opened_here};
@@ -20,20 +22,21 @@ use text_column::opening;
 const BLAME_MAX: usize = 512;
 
 // How a blame begins: with both columns, left and right, or with the only line, by its length.
-#[derive(Drop)]
+#[derive(Clone, Copy)]
 pub enum Begun {
     Columns(Column, Column),
     Line(usize),
 }
 
 // What a chunk took: how many offsets were looked at, and how many bytes their text is.
-#[derive(Drop)]
+#[derive(Clone, Copy)]
 pub struct Looked {
     pub offsets: usize,
     pub bytes: usize,
 }
 
 // Internal: asks for two columns, each opened of its bytes. Begins a blame of them: looks at their lengths and fields.
+#[tactic(auto, using(crate::proofs::Beginnings::begun_lengths))]
 fn begin_both(
     column: Column,
     left: &[u8],

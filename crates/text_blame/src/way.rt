@@ -13,7 +13,7 @@ use text::put::put_text;
 const HAND_MAX: usize = 512;
 
 // Two columns, and the next offset.
-#[derive(Drop)]
+#[derive(Clone, Copy)]
 pub struct At {
     pub left: Column,
     pub right: Column,
@@ -21,7 +21,7 @@ pub struct At {
 }
 
 // Before the first line; before the text of an offset, or before the last line where there is no such offset; at the end.
-#[derive(Drop)]
+#[derive(Clone, Copy)]
 pub enum Way {
     Open,
     Bytes(At),
@@ -29,7 +29,7 @@ pub enum Way {
 }
 
 // A chunk: its length, and the way from there on.
-#[derive(Drop)]
+#[derive(Clone, Copy)]
 pub struct Handed {
     pub bytes: usize,
     pub way: Way,

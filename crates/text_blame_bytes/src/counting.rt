@@ -10,7 +10,7 @@ use format::{Column, Owners};
 use text_column::own::Own;
 
 // Bytes and rows that were counted, and the row behind the last of them: rows are named in ascending order, so those below it were counted.
-#[derive(Drop)]
+#[derive(Clone, Copy)]
 pub struct Tally {
     pub bytes: usize,
     pub rows: u64,
@@ -18,7 +18,7 @@ pub struct Tally {
 }
 
 // What was counted, and the column at the block that the last byte's search reached.
-#[derive(Drop)]
+#[derive(Clone, Copy)]
 struct Counting {
     tally: Tally,
     own: Own,

@@ -8,7 +8,7 @@ use byte_part::naming::shape_of;
 use format::{Column, PartName, Shape};
 
 // The first byte of a field that differs, with the field's name; or there is none.
-#[derive(Drop)]
+#[derive(Clone, Copy)]
 pub enum Field {
     At(usize, PartName),
     Nothing,

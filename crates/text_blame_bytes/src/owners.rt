@@ -12,14 +12,14 @@ use format::Owners;
 use text_column::own::Own;
 
 // The rows of a byte, and the column at the block where their search ended.
-#[derive(Drop)]
+#[derive(Clone, Copy)]
 pub struct Reached {
     pub rows: RowsRead,
     pub own: Own,
 }
 
 // Those rows, none where column and bytes do not fit together at the byte; and the column.
-#[derive(Drop)]
+#[derive(Clone, Copy)]
 pub struct Named {
     pub owners: Owners,
     pub own: Own,

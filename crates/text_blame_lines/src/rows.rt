@@ -13,7 +13,7 @@ use text_blame_bytes::owners::owners_of;
 use text_column::own::Own;
 
 // The offset behind what was put, and the columns at the blocks of the last rows that were.
-#[derive(Drop)]
+#[derive(Clone, Copy)]
 pub struct Put {
     pub end: usize,
     pub left: Own,

@@ -36,7 +36,7 @@ fn put_values(file: &[u8], values: &mut [u64])
 }
 
 // Taking values out of a file: how many now stand in the lent list.
-#[derive(Drop)]
+#[derive(Clone, Copy)]
 pub enum Taken {
     Values(usize),
     Refused(Refusal),

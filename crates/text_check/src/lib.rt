@@ -1,5 +1,7 @@
 // A check as text: one line, of a sheet, a column and a file of values within a program's limits. No argument makes the call fail, and its contract says what
 // every lent entry holds afterwards.
+#![tactic(auto)]
+
 mod given;
 mod lines;
 mod verdicts;

@@ -23,7 +23,7 @@ use Rattle.format.specs.Reading.{column_row, block_at, place_of, fits, value_at,
 use Rattle.format.specs.Runs.{read_run, filled_to}
 use Rattle.format.specs.Refusals.{narrowed_meaning}
 use Rattle.format.specs.Windows.{narrowed, column_after, narrowing}
-use Rattle.format.proofs.Rows.{row_fits, row_answers}
+use Rattle.format.proofs.Rows.{row_fits_lem, row_answers}
 use Rattle.format.proofs.Windows.{narrowed_is}
 use Rattle.blockwise_linear.specs.declared.passing.Pass.{Pass}
 use Rattle.blockwise_linear.specs.Passing.{passed, Passing}
@@ -107,7 +107,7 @@ module _ {s : List ℕ} {c : Column} {b : Block} {r : ℕ} (a : AtRow s c b r) w
       fitting c (length (table_of (opened_here s))) b s (column_row c r) (rw a.block
       (by_shown a.shows
       (λ (c : Column). r < c.window.rows → fits c (length (table_of (opened_here s))) (block_at (table_of (opened_here s)) (column_row c r / 512)) s (column_row c r) ≡ true)
-      (λ h. rw a.shows.opened (row_fits (shows_laid a.shows) s (omega arith) r h)) a.inside))
+      (λ h. rw a.shows.opened (row_fits_lem (shows_laid a.shows) s (omega arith) r h)) a.inside))
 
   -- so it answers its value, or 14
   pub own_answers : asked_as r (value_at c b s (column_row c r)) ≡ own_row c s r

@@ -49,8 +49,8 @@ abbrev pub pass_at : (s : List ℕ) → Column → (k : ℕ) → Pass
 pass_at s c k = passed s (block_rows c) (min (k + 1) (block_count (block_rows c)))
 
 -- and the column with it
-abbrev pub field_own : (s : List ℕ) → Column → (k : ℕ) → Own
-field_own s c k = record { column = c; pass = pass_at s c k }
+abbrev pub own_at : (s : List ℕ) → Column → (k : ℕ) → Own
+own_at s c k = record { column = c; pass = pass_at s c k }
 
 -- ---- narrowing it
 

@@ -10,7 +10,7 @@ use blockwise_linear::passing::Pass;
 use format::{Column, Refusal, RowRead, WindowRow};
 
 // What a list holds: the values of the first `count` of the rows from `first` up to `end`, which are of the block that the pass stands at.
-#[derive(Drop)]
+#[derive(Clone, Copy)]
 pub struct Held {
     pub pass: Pass,
     pub first: WindowRow,

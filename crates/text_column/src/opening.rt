@@ -25,7 +25,8 @@ pub fn open_plain(bytes: &[u8]) -> Opened
             }
         }
         Opened::Refused(refusal) => {
-            if refusal.number() == 11 {
+            let table_short = refusal.number() == 11;
+            if table_short {
                 return Opened::Refused(Refusal::OverLimit);
             }
         }

@@ -13,14 +13,14 @@ use blockwise_linear::passing::Pass;
 use format::{Block, Codec, Column, Refusal, RowRead, WindowRow};
 
 // The column, and a pass over its blocks.
-#[derive(Drop)]
+#[derive(Clone, Copy)]
 pub struct Own {
     pub column: Column,
     pub pass: Pass,
 }
 
 // Narrowing it: with the new window, or a refusal and as it was.
-#[derive(Drop)]
+#[derive(Clone, Copy)]
 pub enum Narrowed {
     Own(Own),
     Refused(Refusal, Own),

@@ -1,6 +1,8 @@
 // Two columns compared, as text: a line for each row whose answers differ, as many at a time as a lent buffer has room for, and the count of
 // lines. A side that does not open is a line of its own. Both sides begin as whole columns; to compare windows, narrow them (`text_column::own::narrow`) before the first chunk. No argument makes a call
 // fail, and each contract says what every lent entry holds afterwards.
+#![tactic(auto)]
+
 mod lines;
 pub mod way;
 
@@ -19,14 +21,14 @@ use text_column::own::Own;
 const LINE_MAX: usize = 53;
 
 // How a comparison begins: with both columns, left and right, or with the line of the first side that does not open, by its length.
-#[derive(Drop)]
+#[derive(Clone, Copy)]
 pub enum Begun {
     Columns(Own, Own),
     Refused(usize),
 }
 
 // What a chunk took: how many rows were looked at, how many lines they have, and how many bytes the lines are.
-#[derive(Drop)]
+#[derive(Clone, Copy)]
 pub struct Compared {
     pub rows: u32,
     pub lines: u32,

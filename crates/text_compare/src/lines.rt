@@ -10,7 +10,7 @@ use text::lines::put_answer;
 use text::put::{put_byte, put_decimal, put_text};
 
 // How far a chunk is filled: so many lines, of so many bytes.
-#[derive(Drop)]
+#[derive(Clone, Copy)]
 pub(crate) struct Done {
     pub lines: u32,
     pub bytes: usize,

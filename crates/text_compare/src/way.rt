@@ -14,7 +14,7 @@ use text_column::own::Own;
 const HAND_MAX: usize = 128;
 
 // Two columns, the next row, and how many lines stand before it.
-#[derive(Drop)]
+#[derive(Clone, Copy)]
 pub struct At {
     pub left: Own,
     pub right: Own,
@@ -23,7 +23,7 @@ pub struct At {
 }
 
 // Before the first line; before the line of a row, or before the last line where there is no such row; at the end.
-#[derive(Drop)]
+#[derive(Clone, Copy)]
 pub enum Way {
     Open,
     Rows(At),
@@ -31,7 +31,7 @@ pub enum Way {
 }
 
 // A chunk: its length, and the way from there on.
-#[derive(Drop)]
+#[derive(Clone, Copy)]
 pub struct Handed {
     pub bytes: usize,
     pub way: Way,

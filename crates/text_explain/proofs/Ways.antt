@@ -81,9 +81,9 @@ only_long (refusal number also) = refl
 pub begun_wrote : (s : List ℕ) {line₀ line : List ℕ} {r : Begun} → BegunAs (opened_here s) r line₀ line → Wrote line₀ 0 (only_line (opened_here s)) line (line_length r)
 begun_wrote s f = record { ends = ap line_length f.answer ∙ only_long (opened_here s) ∙ sym (zero-add _); list = f.line }
 
-pub handed_first : {s line₀ line old new : List ℕ} {end : ℕ} {r : Begun} {w : Way} → length line₀ ≡ 128 → hand_max ≤ length old
+pub handed_first : (s : List ℕ) {line₀ line old new : List ℕ} {end : ℕ} {r : Begun} {w : Way} → length line₀ ≡ 128 → hand_max ≤ length old
     → BegunAs (opened_here s) r line₀ line → Wrote old 0 (take (line_length r) line) new end → w ≡ way_of r → HandedAs (explanation_walk s) Open end w old new
-handed_first {s} {line₀} {line} {old} space free f copied is =
+handed_first s {line₀} {line} {old} space free f copied is =
     let first = begun_wrote s f in
     let wrote = line_copied first f.counts copied in
     handed_by (explanation_walk s) free wrote (omega (arith, wrote.ends, first.ends, (line_fits first space f.counts free).0)) (is ∙ ap way_of f.answer) (way_on s Open (length old) free)
@@ -99,17 +99,17 @@ module _ (s : List ℕ) (c : Column) (from room : ℕ) {told : Told} (answer : t
       sym is ∙ ap (λ (t : Told). way_next c from t.parts) answer
 
 -- lines of parts
-pub handed_parts : {s old new : List ℕ} {c : Column} {from : ℕ} {told : Told} {next : Way} → hand_max ≤ length old → told ≡ told_in s c (length old) from
+pub handed_parts : (s : List ℕ) {old new : List ℕ} {c : Column} {from : ℕ} {told : Told} {next : Way} → hand_max ≤ length old → told ≡ told_in s c (length old) from
     → new ≡ sets old 0 (chunk (text_at s c) part_max (length (parts_of s c)) (length old) from) → IsPrefixLen told.bytes new → next ≡ behind s (Parts c from) (length old)
     → HandedAs (explanation_walk s) (Parts c from) told.bytes next old new
-handed_parts {s} {old} {new} {c} {from} {told} free answer list shown is =
+handed_parts s {old} {new} {c} {from} {told} free answer list shown is =
     let text = chunk (text_at s c) part_max (length (parts_of s c)) (length old) from in
     let kept : length new ≡ length old = ap length list ∙ length-sets old 0 text in
     handed_by (explanation_walk s) free (record { ends = ap (λ (t : Told). t.bytes) answer ∙ sym (zero-add _); list = list }) (omega (arith, shown.0)) is (way_on s (Parts c from) (length old) free)
 
 -- nothing, at the end
-pub handed_done : {s old : List ℕ} → hand_max ≤ length old → HandedAs (explanation_walk s) Done 0 Done old old
-handed_done {s} {old} free = handed_by (explanation_walk s) free (record { ends = refl; list = refl }) (omega arith) refl (way_on s Done (length old) free)
+pub handed_done : (s : List ℕ) {old : List ℕ} → hand_max ≤ length old → HandedAs (explanation_walk s) Done 0 Done old old
+handed_done s {old} free = handed_by (explanation_walk s) free (record { ends = refl; list = refl }) (omega arith) refl (way_on s Done (length old) free)
 
 -- parts that a chunk took are among those that are left
 pub taken : (s : List ℕ) (c : Column) (room from : ℕ) (r : Told) → r ≡ told_in s c room from → (r.parts ≡ 0 → ⊥) → from + r.parts ≤ length (parts_of s c)
@@ -154,8 +154,8 @@ more_left s Open more = omega arith
 more_left s (Parts c from) more = omega arith
 more_left s Done more = absurd (let z : ◌≡◌ {A = ℕ} 0 1 = ap (λ (b : Bool). pick b 1 0) more in omega arith)
 
-pub handed_less : {s old new : List ℕ} {w next : Way} {bytes : ℕ} → hand_max ≤ length old → is_more w ≡ true → HandedAs (explanation_walk s) w bytes next old new → left s next < left s w
-handed_less {s} {old} {new} {w} {next} {bytes} free more h =
+pub handed_less : (s : List ℕ) {old new : List ℕ} {w next : Way} {bytes : ℕ} → hand_max ≤ length old → is_more w ≡ true → HandedAs (explanation_walk s) w bytes next old new → left s next < left s w
+handed_less s {old} {new} {w} {next} {bytes} free more h =
     omega (arith, ap (left s) (handed_on (explanation_walk s) free h), left_less s w (length old), more_left s w more)
 
 nothing_left : (s : List ℕ) (w : Way) → left s w ≡ 0 → rest s w ≡ []

@@ -1,5 +1,7 @@
 // A column's parts as text: a line for each part that has bytes, as many at a time as a lent buffer has room for. What does not open is a line of its
 // own. No argument makes a call fail, and each contract says what every lent entry holds afterwards.
+#![tactic(auto)]
+
 mod lines;
 pub mod way;
 pub mod words;
@@ -15,14 +17,14 @@ use text::lines::refused_line;
 const LINE_MAX: usize = 90;
 
 // How an explanation begins: with an opened column, or with the line of its refusal, by its length.
-#[derive(Drop)]
+#[derive(Clone, Copy)]
 pub enum Begun {
     Column(Column),
     Refused(usize),
 }
 
 // What a chunk took: how many parts, and how many bytes their lines are.
-#[derive(Drop)]
+#[derive(Clone, Copy)]
 pub struct Told {
     pub parts: usize,
     pub bytes: usize,

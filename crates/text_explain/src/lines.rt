@@ -9,7 +9,7 @@ use format::{Codec, Column, Part, Shape};
 use text::put::{put_byte, put_decimal, put_named};
 
 // What a line says behind a part's name: the number that its bytes spell, the bits that a row has in the area, or nothing.
-#[derive(Drop)]
+#[derive(Clone, Copy)]
 pub enum Said {
     Number(u64),
     Bits(u8),

@@ -13,7 +13,7 @@ use text::put::put_text;
 const HAND_MAX: usize = 128;
 
 // Before the first line; before the line of a part, by its number; at the end.
-#[derive(Drop)]
+#[derive(Clone, Copy)]
 pub enum Way {
     Open,
     Parts(Column, usize),
@@ -21,7 +21,7 @@ pub enum Way {
 }
 
 // A chunk: its length, and the way from there on.
-#[derive(Drop)]
+#[derive(Clone, Copy)]
 pub struct Handed {
     pub bytes: usize,
     pub way: Way,

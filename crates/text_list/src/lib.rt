@@ -1,5 +1,7 @@
 // A column as text: the first line, the rows' lines, as many at a time as a lent buffer has room for, and the last line. What is
 // refused is a line of its own. No argument makes a call fail, and each contract says what every lent entry holds afterwards.
+#![tactic(auto)]
+
 mod lines;
 pub mod way;
 
@@ -17,7 +19,7 @@ use text_column::own::Own;
 const LINE_MAX: usize = 32;
 
 // How a listing begins: with an opened column, or with a refusal, by its number; and the length of the line that says so.
-#[derive(Drop)]
+#[derive(Clone, Copy)]
 pub enum Begun {
     Column(Own, usize),
     Refused(u8, usize),

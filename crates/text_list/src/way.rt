@@ -14,7 +14,7 @@ use text_column::own::Own;
 const HAND_MAX: usize = 128;
 
 // Before the first line; before the line of a row, or before the last line where there is no such row; at the end.
-#[derive(Drop)]
+#[derive(Clone, Copy)]
 pub enum Way {
     Open,
     Rows(Own, WindowRow),
@@ -22,7 +22,7 @@ pub enum Way {
 }
 
 // A chunk: its length, and the way from there on.
-#[derive(Drop)]
+#[derive(Clone, Copy)]
 pub struct Handed {
     pub bytes: usize,
     pub way: Way,

@@ -1,5 +1,7 @@
 // A replay as text: one line, of a column and a recording within a program's limits. No argument makes the call fail, and its contract says what every lent
 // entry holds afterwards.
+#![tactic(auto)]
+
 mod lines;
 mod running;
 

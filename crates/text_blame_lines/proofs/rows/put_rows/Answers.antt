@@ -1,0 +1,27 @@
+-- `put_rows` meets its contract. The invariant is `Written`: the lines of the rows so far.
+-- Assumes nothing.
+use Prim.Native.Nat.{◌+◌, ◌-◌}
+use mathlib.Core.Path.{◌≡◌}
+use native.Mathlib.Omega.{arith}
+use Rattle.text_column.specs.Own.{own_row}
+use Rattle.text_blame_lines.specs.Bytes.{row_text}
+use Rattle.text_blame_lines.proofs.RowTexts.{written-starts, written_more}
+use Rattle.text_blame_lines.proofs.rows.put_rows.Goals as goal
+
+pub loop-k-init : goal.loop-k-init
+loop-k-init c = (written-starts _ _ _ _, omega arith, omega arith, omega arith, omega arith)
+
+pub loop-k-preserved : goal.loop-k-preserved
+loop-k-preserved c = (
+  written_more (row_text (own_row c.args.left.column c.args.lbytes.now) (own_row c.args.right.column c.args.rbytes.now)) c.args.first c.loop-k.k
+      c.loop-k.invariant.0 (rw (c.answer-a.ensures, c.answer-b.ensures) at c.put_row-end.ensures.wrote),
+  c.loop-k.invariant.1,
+  omega arith,
+  omega (arith, c.put_row-end.ensures.upper_bound),
+  omega (arith, c.put_row-end.auto.out),
+)
+
+pub returns : goal.returns
+returns c =
+    let all : c.loop-k.k ≡ c.args.last + 1 - c.args.first = omega (arith, c.loop-k-test.false) in
+    record { wrote = rw (← all) c.loop-k.invariant.0; upper_bound = omega arith }
