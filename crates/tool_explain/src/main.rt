@@ -1,30 +1,31 @@
 // Lists the parts of the column on standard input as text on standard output. The text is the library's, `text_explain`, which hands it out
 // chunk by chunk; this program moves bytes.
+#![tactic(auto)]
+
 ghost use Rattle.std.specs.Prelude.{◌≤◌, length};
 ghost use Rattle.text_explain.specs.Way.{hand_max};
 
-use libc::STDOUT_FILENO;
 use text_explain::way;
 
 // Internal: asks for a buffer that has room for the longest line, so that each turn is handed on. Writes the explanation of some bytes, a
 // bufferful at a time, until a write fails.
-fn write_explanation(bytes: &[u8], out: &mut [u8])
+fn write_explanation(rt: &impl Print, bytes: &[u8], out: &mut [u8])
     requires { hand_max ≤ length out.old }
 {
     let mut at = way::begin();
     while way::more(at) {
         let handed = way::fill(at, bytes, out);
         let n = handed.bytes;
-        if !io::write_all(STDOUT_FILENO, &out[..n]) {
+        if !tool_files::write_all(rt, &out[..n]) {
             return;
         }
         at = handed.way;
     }
 }
 
-fn main() {
+fn main(rt: HostRuntime) {
     let mut bytes = tool_files::column_room();
-    let n = tool_files::read_input(&mut bytes);
+    let n = tool_files::read_input(&rt, &mut bytes);
     let mut out = io::large_buffer();
-    write_explanation(&bytes[..n], &mut out);
+    write_explanation(&rt, &bytes[..n], &mut out);
 }
