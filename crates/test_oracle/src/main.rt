@@ -1,9 +1,10 @@
 // Columns that the Rust wrote, with their lists: each list is written again and held to its column byte by byte, and each column is checked against its list under sheet 2, which
 // what is written passes. tools/answers/written.py takes the cases out of the stored answers, and says what has to be printed.
+#![tactic(auto)]
+
 ghost use Rattle.std.specs.Prelude.{◌≡◌, ◌≤◌, ◌<◌, length};
 
 use format::{Checked, Kind, Stored};
-use libc::STDOUT_FILENO;
 use text::lines::named_line;
 use tool_files::cases::length_at;
 
@@ -59,56 +60,63 @@ fn begins_with(out: &[u8; BYTES], column: &[u8]) -> bool {
 }
 
 // Writes a list, and says whether the column is just what is written, or the refusal.
-fn show_written(kind: Kind, values: &[u64], codecs: &[u8], column: &[u8]) {
+fn show_written(rt: &impl Print, kind: Kind, values: &[u64], codecs: &[u8], column: &[u8]) {
     let mut out = [0u8; BYTES];
     match u64_based::serialize_as(kind, values, codecs, &mut out) {
         Stored::Refused(why) => {
             let mut line = [0u8; 128];
             let n = named_line(b"refused ", why.number() as u64, &mut line);
-            io::write_all(STDOUT_FILENO, &line[..n]);
+            tool_files::write_all(rt, &line[..n]);
         }
         Stored::Entries(n) => {
             if n == column.len() && begins_with(&out, column) {
-                io::write_all(STDOUT_FILENO, b"written as stored\n");
+                tool_files::write_all(rt, b"written as stored\n");
             } else {
-                io::write_all(STDOUT_FILENO, b"written otherwise\n");
+                tool_files::write_all(rt, b"written otherwise\n");
             }
         }
     }
 }
 
 // Says whether a column is passed for a list.
-fn show_checked(kind: Kind, values: &[u64], column: &[u8]) {
+fn show_checked(rt: &impl Print, kind: Kind, values: &[u64], column: &[u8]) {
     let opened = open_column::open_plain_under(2, column, BLOCKS);
     match check_verdict::verdict_on(kind, opened, column, values) {
         Checked::Passed => {
-            io::write_all(STDOUT_FILENO, b"yes\n");
+            tool_files::write_all(rt, b"yes\n");
         }
         _ => {
-            io::write_all(STDOUT_FILENO, b"no\n");
+            tool_files::write_all(rt, b"no\n");
         }
     }
 }
 
 // Writes a case's title, and what is said of its list and its column; a list that is refused has none.
-fn show_list(title: &[u8], kind: Kind, values: &[u64], codecs: &[u8], column: &[u8]) {
-    io::write_all(STDOUT_FILENO, title);
-    show_written(kind, values, codecs, column);
+fn show_list(
+    rt: &impl Print,
+    title: &[u8],
+    kind: Kind,
+    values: &[u64],
+    codecs: &[u8],
+    column: &[u8],
+) {
+    tool_files::write_all(rt, title);
+    show_written(rt, kind, values, codecs, column);
     if 0 < column.len() {
-        show_checked(kind, values, column);
+        show_checked(rt, kind, values, column);
     }
 }
 
 // The same, of a list as its words and a kind as its number.
-fn show(title: &[u8], kind: usize, codecs: &[u8], words: &[u8], column: &[u8]) {
+fn show(rt: &impl Print, title: &[u8], kind: usize, codecs: &[u8], words: &[u8], column: &[u8]) {
     let mut values = [0u64; VALUES];
     let n = take(words, &mut values);
-    show_list(title, kind_of(kind), &values[..n], codecs, column);
+    show_list(rt, title, kind_of(kind), &values[..n], codecs, column);
 }
 
 // Internal: asks for an offset within the file. Shows the case that begins there: the lengths of its title, its codecs, its values and its column, the number of its kind, then these. Returns the offset
 // behind it, or the file's end where it is cut off.
-fn show_case(file: &[u8], at: usize) -> usize
+fn show_case(rt: &impl Print, file: &[u8], at: usize) -> usize
     requires { at < length file.now }
     ensures { at < result }
 {
@@ -125,6 +133,7 @@ fn show_case(file: &[u8], at: usize) -> usize
         return size;
     }
     show(
+        rt,
         &file[title..codecs],
         length_at(file, at + 16),
         &file[codecs..words],
@@ -135,16 +144,16 @@ fn show_case(file: &[u8], at: usize) -> usize
 }
 
 // Shows the cases of a file.
-fn show_all(file: &[u8]) {
+fn show_all(rt: &impl Print, file: &[u8]) {
     let size = file.len();
     let mut at = 0;
     while at < size {
-        at = show_case(file, at);
+        at = show_case(rt, file, at);
     }
 }
 
-fn main() {
+fn main(rt: HostRuntime) {
     let mut file = tool_files::cases::room();
-    let n = tool_files::read_named(1, &mut file);
-    show_all(&file[..n]);
+    let n = tool_files::read_named(&rt, 1, &mut file);
+    show_all(&rt, &file[..n]);
 }

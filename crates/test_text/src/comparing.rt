@@ -4,13 +4,12 @@ ghost use Rattle.text_compare.specs.Way.{hand_max};
 ghost use Rattle.text_column.specs.Own.{Owned};
 
 use format::{Window, WindowRow};
-use libc::STDOUT_FILENO;
 use text_column::own::{Narrowed, Own};
 use text_compare::{Begun, way};
 use tool_files::cases::length_at;
 
 // The windows of the two sides.
-#[derive(Drop)]
+#[derive(Clone, Copy)]
 struct Windows {
     left: Window,
     right: Window,
@@ -38,7 +37,7 @@ fn narrowed(own: Own, window: Window) -> Own
 
 // Internal: asks for two columns, each opened of its bytes, and for a buffer that has room for the longest line. Writes their comparison, a
 // bufferful at a time, until a write fails.
-fn write_rows(own: Own, left: &[u8], its: Own, right: &[u8], out: &mut [u8])
+fn write_rows(rt: &impl Print, own: Own, left: &[u8], its: Own, right: &[u8], out: &mut [u8])
     requires owned { Owned left.now own.column own.pass }
     requires owned_2 { Owned right.now its.column its.pass }
     requires hand_max_in_bounds { hand_max ≤ length out.old }
@@ -47,7 +46,7 @@ fn write_rows(own: Own, left: &[u8], its: Own, right: &[u8], out: &mut [u8])
     while way::more(at) {
         let handed = way::fill(at, left, right, out);
         let n = handed.bytes;
-        if !io::write_all(STDOUT_FILENO, &out[..n]) {
+        if !tool_files::write_all(rt, &out[..n]) {
             return;
         }
         at = handed.way;
@@ -55,24 +54,24 @@ fn write_rows(own: Own, left: &[u8], its: Own, right: &[u8], out: &mut [u8])
 }
 
 // Writes a title and the comparison of some bytes with others, each through its window.
-fn show(title: &[u8], left: &[u8], right: &[u8], windows: Windows) {
-    io::write_all(STDOUT_FILENO, title);
+fn show(rt: &impl Print, title: &[u8], left: &[u8], right: &[u8], windows: Windows) {
+    tool_files::write_all(rt, title);
     let mut line = [0u8; 128];
     match text_compare::begin(left, right, &mut line) {
         Begun::Refused(n) => {
-            io::write_all(STDOUT_FILENO, &line[..n]);
+            tool_files::write_all(rt, &line[..n]);
         }
         Begun::Columns(own, its) => {
             let a = narrowed(own, windows.left);
             let b = narrowed(its, windows.right);
             let mut out = io::buffer();
-            write_rows(a, left, b, right, &mut out);
+            write_rows(rt, a, left, b, right, &mut out);
         }
     }
 }
 
 // The same with the windows as they are spelled: the left one's first row and how many rows, and then the right one's. Fewer bytes are no case.
-pub(crate) fn show_case(title: &[u8], left: &[u8], right: &[u8], windows: &[u8]) {
+pub(crate) fn show_case(rt: &impl Print, title: &[u8], left: &[u8], right: &[u8], windows: &[u8]) {
     if windows.len() < 16 {
         return;
     }
@@ -80,5 +79,5 @@ pub(crate) fn show_case(title: &[u8], left: &[u8], right: &[u8], windows: &[u8])
         left: window_at(windows, 0),
         right: window_at(windows, 8),
     };
-    show(title, left, right, spelled);
+    show(rt, title, left, right, spelled);
 }

@@ -1,22 +1,23 @@
 // Opens the columns of a file of cases for a view, each below its title, and asks the view for its rows; then the same by the calls on plain parameters. tools/answers/views.py wrote the
 // file, and says what has to be printed.
+#![tactic(auto)]
+
 ghost use Rattle.std.specs.Prelude.{◌<◌, ◌≤◌, length};
 ghost use Rattle.test_view.specs.Asked.{AskedAs};
 
 use format::{Column, Opened, RowRead};
-use libc::STDOUT_FILENO;
 use text::lines::{named_line, pair_line, refused_line};
 use tool_files::cases::length_at;
 
 // What a view of some bytes answers: its opening, its row count, and a row.
-#[derive(Drop)]
+#[derive(Clone, Copy)]
 struct Asked {
     answer: Opened,
     rows: u32,
     read: RowRead,
 }
 
-// Opens a view, and asks it for its row count and a row. All that the program does with a view stands here, since what holds one is proved by hand.
+// Opens a view, and asks it for its row count and a row. All that the program does with a view stands here.
 fn ask(sheet: u32, bytes: &[u8], row: u32) -> Asked
     ensures { AskedAs sheet bytes.now row result }
 {
@@ -31,14 +32,14 @@ fn ask(sheet: u32, bytes: &[u8], row: u32) -> Asked
 }
 
 // Internal: asks for a name of at most forty bytes. Writes a row and what it answers as a line.
-fn show_read(name: &[u8], row: u32, read: RowRead)
+fn show_read(rt: &impl Print, name: &[u8], row: u32, read: RowRead)
     requires { length name.now ≤ 40 }
 {
     let mut line = [0u8; 128];
     match read {
         RowRead::Value(v) => {
             let n = pair_line(name, row as u64, b" ", v, &mut line);
-            io::write_all(STDOUT_FILENO, &line[..n]);
+            tool_files::write_all(rt, &line[..n]);
         }
         RowRead::Refused(why) => {
             let n = pair_line(
@@ -48,87 +49,87 @@ fn show_read(name: &[u8], row: u32, read: RowRead)
                 why.number() as u64,
                 &mut line,
             );
-            io::write_all(STDOUT_FILENO, &line[..n]);
+            tool_files::write_all(rt, &line[..n]);
         }
     }
 }
 
 // Writes the number of a refused opening as a line, and of a column nothing.
-fn show_refused(answer: Opened) {
+fn show_refused(rt: &impl Print, answer: Opened) {
     let mut line = [0u8; 128];
     match answer {
         Opened::Column(_, _) => {}
         Opened::Refused(_) => {
             let n = refused_line(b"refused ", answer, &mut line);
-            io::write_all(STDOUT_FILENO, &line[..n]);
+            tool_files::write_all(rt, &line[..n]);
         }
     }
 }
 
 // Writes how many rows a view has.
-fn show_count(rows: u32) {
+fn show_count(rt: &impl Print, rows: u32) {
     let mut line = [0u8; 128];
     let n = named_line(b"rows ", rows as u64, &mut line);
-    io::write_all(STDOUT_FILENO, &line[..n]);
+    tool_files::write_all(rt, &line[..n]);
 }
 
 // Writes what a view answers of a row.
-fn show_row(sheet: u32, bytes: &[u8], row: u32) {
+fn show_row(rt: &impl Print, sheet: u32, bytes: &[u8], row: u32) {
     let asked = ask(sheet, bytes, row);
     let read = asked.read;
-    show_read(b"row ", row, read);
+    show_read(rt, b"row ", row, read);
 }
 
 // Of each row, and of the one behind them.
-fn show_rows(sheet: u32, bytes: &[u8], rows: u32) {
+fn show_rows(rt: &impl Print, sheet: u32, bytes: &[u8], rows: u32) {
     let mut i = 0;
     while i < rows {
-        show_row(sheet, bytes, i);
+        show_row(rt, sheet, bytes, i);
         i += 1;
     }
-    show_row(sheet, bytes, rows);
+    show_row(rt, sheet, bytes, rows);
 }
 
 // Writes what a column answers of a row without a view.
-fn show_plain_row(column: Column, bytes: &[u8], row: u32) {
+fn show_plain_row(rt: &impl Print, column: Column, bytes: &[u8], row: u32) {
     let read = view::row_of(column, bytes, row);
-    show_read(b"plain row ", row, read);
+    show_read(rt, b"plain row ", row, read);
 }
 
 // Of each row, and of the one behind them.
-fn show_plain_rows(column: Column, bytes: &[u8]) {
+fn show_plain_rows(rt: &impl Print, column: Column, bytes: &[u8]) {
     let rows = column.window.rows;
     let mut i = 0;
     while i < rows {
-        show_plain_row(column, bytes, i);
+        show_plain_row(rt, column, bytes, i);
         i += 1;
     }
-    show_plain_row(column, bytes, rows);
+    show_plain_row(rt, column, bytes, rows);
 }
 
 // The same of what opens without a view, or the refusal.
-fn show_plain(sheet: u32, bytes: &[u8]) {
+fn show_plain(rt: &impl Print, sheet: u32, bytes: &[u8]) {
     let answer = view::open_plain(sheet, bytes);
     match answer {
-        Opened::Column(column, _) => show_plain_rows(column, bytes),
-        Opened::Refused(_) => show_refused(answer),
+        Opened::Column(column, _) => show_plain_rows(rt, column, bytes),
+        Opened::Refused(_) => show_refused(rt, answer),
     }
 }
 
 // Writes a title, what a view of some bytes answers, and what the plain calls do.
-fn show(title: &[u8], sheet: u32, bytes: &[u8]) {
-    io::write_all(STDOUT_FILENO, title);
+fn show(rt: &impl Print, title: &[u8], sheet: u32, bytes: &[u8]) {
+    tool_files::write_all(rt, title);
     let asked = ask(sheet, bytes, 0);
     let answer = asked.answer;
-    show_refused(answer);
-    show_count(asked.rows);
-    show_rows(sheet, bytes, asked.rows);
-    show_plain(sheet, bytes);
+    show_refused(rt, answer);
+    show_count(rt, asked.rows);
+    show_rows(rt, sheet, bytes, asked.rows);
+    show_plain(rt, sheet, bytes);
 }
 
 // Internal: asks for an offset within the file. Shows the case that begins there: the lengths of its title and its column, the sheet, then title and column. Returns the offset
 // behind it, or the file's end where it is cut off.
-fn show_case(file: &[u8], at: usize) -> usize
+fn show_case(rt: &impl Print, file: &[u8], at: usize) -> usize
     requires { at < length file.now }
     ensures { at < result }
 {
@@ -143,6 +144,7 @@ fn show_case(file: &[u8], at: usize) -> usize
         return size;
     }
     show(
+        rt,
         &file[title..column],
         length_at(file, at + 8) as u32,
         &file[column..end],
@@ -151,16 +153,16 @@ fn show_case(file: &[u8], at: usize) -> usize
 }
 
 // Shows the cases of a file.
-fn show_all(file: &[u8]) {
+fn show_all(rt: &impl Print, file: &[u8]) {
     let size = file.len();
     let mut at = 0;
     while at < size {
-        at = show_case(file, at);
+        at = show_case(rt, file, at);
     }
 }
 
-fn main() {
+fn main(rt: HostRuntime) {
     let mut file = tool_files::cases::room();
-    let n = tool_files::read_named(1, &mut file);
-    show_all(&file[..n]);
+    let n = tool_files::read_named(&rt, 1, &mut file);
+    show_all(&rt, &file[..n]);
 }
