@@ -44,7 +44,7 @@
  * It is built by `cc rows.c $(pkg-config --cflags --libs hulemartob)` once `tools/install PREFIX` has put header and archive in place. hulemartob_typed.h
  * has what is above these calls: a reader that keeps column, table and bytes together, and values of C's own types.
  *
- * The archive is x86-64 code for Linux. It leaves memcpy and memset undefined, which every C library has, and needs nothing else.
+ * The archive is x86-64-v2 code for Linux. It leaves memcpy and memset undefined, which every C library has, and needs nothing else.
  *
  * What every function does: it ends, and whatever its arguments hold it fails only by a refusal. `error` is then the refusal's number and value, and
  * nothing else that was lent is changed. Otherwise `error` is 0 and 0. All of that is proved, and so is every answer: crates/hulemartob states it as an

@@ -1,9 +1,9 @@
 //! Finds the library's archive and links it. It is looked for in this order:
 //!
 //! 1. in the folder that HULEMARTOB_LIB names;
-//! 2. in `target/staticlib` of the repository that this crate stands in;
+//! 2. in `crates/hulemartob/out` of the repository that this crate stands in;
 //! 3. where pkg-config finds `hulemartob`;
-//! 4. with `rt` at hand, in that repository: `rt staticlib` makes it, which proves everything first.
+//! 4. with `rt` at hand, in that repository: `rt lib` in `crates/hulemartob` makes it, which proves everything first.
 //!
 //! The archive is x86-64 code for Linux. HULEMARTOB_NATIVE says that it is code for another machine, as tools/native makes it for tests.
 
@@ -11,7 +11,7 @@ use std::env;
 use std::path::{Path, PathBuf};
 use std::process::{Command, ExitCode, Stdio};
 
-/// The archive's name without `lib` and `.a`, which is that of the crate `rt staticlib` makes it of.
+/// The archive's name without `lib` and `.a`, which is that of the crate that `rt lib` makes it of.
 const ARCHIVE: &str = "hulemartob";
 
 /// Two lines: what is the matter, and what to do.
@@ -44,7 +44,7 @@ fn installed() -> Option<PathBuf> {
 /// Has `rt` make the archive in a repository.
 fn made(top: &Path, folder: PathBuf) -> Option<PathBuf> {
     let here = top.join("crates.txt").is_file();
-    let rt = here.then(|| Command::new("rt").args(["staticlib", ARCHIVE]).current_dir(top).stdout(Stdio::null()).status())?;
+    let rt = here.then(|| Command::new("rt").arg("lib").current_dir(top.join("crates").join(ARCHIVE)).stdout(Stdio::null()).status())?;
     (rt.ok()?.success() && holds(&folder)).then_some(folder)
 }
 
@@ -55,20 +55,20 @@ fn folder() -> Result<PathBuf, Trouble> {
         let trouble = || {
             [
                 format!("HULEMARTOB_LIB is {}, where there is no lib{ARCHIVE}.a", folder.display()),
-                format!("set it to the folder of the archive that `rt staticlib {ARCHIVE}` makes, or unset it"),
+                format!("set it to the folder of the archive that `rt lib` in the repository's crates/{ARCHIVE} makes, or unset it"),
             ]
         };
         return if holds(&folder) { Ok(folder) } else { Err(trouble()) };
     }
     let top = Path::new(env!("CARGO_MANIFEST_DIR")).join("../..");
-    let own = top.join("target/staticlib");
+    let own = top.join("crates").join(ARCHIVE).join("out");
     if holds(&own) {
         return Ok(own);
     }
     installed().or_else(|| made(&top, own)).ok_or_else(|| {
         [
-            format!("there is no lib{ARCHIVE}.a: not in the repository's target/staticlib, not by pkg-config, and `rt` did not make it"),
-            format!("run `rt staticlib {ARCHIVE}` in the repository, or set HULEMARTOB_LIB to the folder that has the archive"),
+            format!("there is no lib{ARCHIVE}.a: not in the repository's crates/{ARCHIVE}/out, not by pkg-config, and `rt` did not make it"),
+            format!("run `rt lib` in the repository's crates/{ARCHIVE}, or set HULEMARTOB_LIB to the folder that has the archive"),
         ]
     })
 }

@@ -20,6 +20,7 @@ impl Repository {
         let repository = Repository { top, archive: archive.to_owned() };
         fs::create_dir_all(repository.top.join("rust/hulemartob")).unwrap();
         fs::create_dir_all(repository.top.join("tools")).unwrap();
+        fs::create_dir_all(repository.top.join("crates").join(&repository.archive)).unwrap();
         fs::write(repository.top.join("crates.txt"), "").unwrap();
         fs::write(repository.top.join("build.rs"), SCRIPT).unwrap();
         let compiled = Command::new("rustc")
@@ -29,6 +30,11 @@ impl Repository {
             .status();
         assert!(compiled.expect("rustc").success());
         repository
+    }
+
+    /// Where `rt lib` makes the archive.
+    fn own(&self) -> String {
+        format!("crates/{}/out", self.archive)
     }
 
     /// Puts an archive into a folder of the repository.
@@ -86,11 +92,11 @@ fn in_their_order() {
     let nothing = ["there is no lib", "HULEMARTOB_LIB"];
     repository.refuses(&X86_64_LINUX, nothing);
 
-    let made = repository.top.join("target/staticlib");
+    let made = repository.top.join(repository.own());
     let archive = made.join(format!("lib{}.a", repository.archive));
     repository.tool(
         "rt",
-        &format!("[ \"$*\" = 'staticlib {}' ] && /bin/mkdir -p target/staticlib && : > {}", repository.archive, archive.display()),
+        &format!("[ \"$*\" = lib ] && /bin/mkdir -p out && : > out/lib{}.a", repository.archive),
     );
     repository.links(&X86_64_LINUX, &made);
     fs::remove_file(&archive).unwrap();
@@ -99,13 +105,13 @@ fn in_their_order() {
     repository.tool("pkg-config", &format!("[ \"$*\" = '--variable=libdir hulemartob' ] && echo {}", installed.display()));
     repository.links(&X86_64_LINUX, &installed);
 
-    let own = repository.put("target/staticlib");
+    let own = repository.put(&repository.own());
     repository.links(&X86_64_LINUX, &own);
 
     let named = repository.put("a folder of its own");
     let [arch, os] = X86_64_LINUX;
     repository.links(&[arch, os, ("HULEMARTOB_LIB", named.to_str().unwrap())], &named);
-    repository.refuses(&[arch, os, ("HULEMARTOB_LIB", "/nowhere")], ["HULEMARTOB_LIB is /nowhere", "rt staticlib"]);
+    repository.refuses(&[arch, os, ("HULEMARTOB_LIB", "/nowhere")], ["HULEMARTOB_LIB is /nowhere", "rt lib"]);
 }
 
 #[test]
@@ -113,19 +119,19 @@ fn where_nothing_makes_it() {
     let repository = Repository::new("nothing");
     repository.tool("rt", "exit 1");
     repository.tool("pkg-config", "exit 1");
-    repository.refuses(&X86_64_LINUX, ["there is no lib", "rt staticlib"]);
+    repository.refuses(&X86_64_LINUX, ["there is no lib", "rt lib"]);
     repository.tool("pkg-config", "echo /nowhere");
-    repository.refuses(&X86_64_LINUX, ["there is no lib", "rt staticlib"]);
+    repository.refuses(&X86_64_LINUX, ["there is no lib", "rt lib"]);
     // outside a repository `rt` is not asked
     fs::remove_file(repository.top.join("crates.txt")).unwrap();
-    repository.tool("rt", &format!("/bin/mkdir -p target/staticlib && : > target/staticlib/lib{}.a", repository.archive));
-    repository.refuses(&X86_64_LINUX, ["there is no lib", "rt staticlib"]);
+    repository.tool("rt", &format!("/bin/mkdir -p out && : > out/lib{}.a", repository.archive));
+    repository.refuses(&X86_64_LINUX, ["there is no lib", "rt lib"]);
 }
 
 #[test]
 fn for_another_platform() {
     let repository = Repository::new("platform");
-    let own = repository.put("target/staticlib");
+    let own = repository.put(&repository.own());
     for (arch, os) in [("x86_64", "macos"), ("x86_64", "windows"), ("aarch64", "linux"), ("x86", "linux")] {
         let mut environment = vec![("CARGO_CFG_TARGET_ARCH", arch), ("CARGO_CFG_TARGET_OS", os)];
         repository.refuses(&environment, ["x86-64 code for Linux", "x86_64-unknown-linux-gnu"]);

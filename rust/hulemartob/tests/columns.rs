@@ -238,7 +238,7 @@ fn round_trips() {
 #[test]
 fn the_most_bytes() {
     let proved = include_str!("../../../crates/format/specs/Lengths.antt");
-    assert!(proved.contains("reserve rows = 45 + 8 * rows + 21 * max 1 (blockCount rows)"));
+    assert!(proved.contains("reserve rows = 45 + 8 * rows + 21 * max 1 (block_count rows)"));
     for rows in [0usize, 1, 511, 512, 513, 1024, 1025, 100_000, (1 << 32) - 1] {
         assert_eq!(max_encoded_len(rows), 45 + 8 * rows + 21 * rows.div_ceil(512).max(1));
     }
