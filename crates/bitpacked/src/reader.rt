@@ -1,33 +1,32 @@
 // Reading: what is left to open once the head is read, and a row of an opened column.
 ghost use Rattle.std.specs.Prelude.{◌≡◌, ℕ, ◌+◌, ◌*◌, ◌^◌, ◌≤◌, ◌<◌, length, true};
-ghost use Rattle.format.specs.Refusals.{opened_meaning, row_meaning};
 ghost use Rattle.format.specs.Opening.{open_bitpacked, column_in};
 ghost use Rattle.format.specs.Packing.{legal, unpack};
 ghost use Rattle.format.specs.Reading.{packed_of, value_in, value_at, scaled};
 ghost use Rattle.format.specs.Runs.{read_run, filled_to};
 ghost use Rattle.format.specs.declared.Block.{Block};
 ghost use Rattle.bitpacked.specs.Reader.{Readable};
+ghost use Rattle.format.specs.Refusals.{answered_by};
 
-use format::{Codec, Column, ColumnRow, Head, Opened, Refusal, RowRead};
+use format::{Codec, Column, ColumnRow, Head, Refusal};
 
 // The column of a head: its area comes behind it, at the width of the count.
-pub fn load(bytes: &[u8], head: Head) -> Opened
-    ensures { opened_meaning result ≡ column_in (open_bitpacked bytes.now head) }
+#[tactic(auto, using(format::proofs::Widths::width_most), unfolding(format::specs::Opening::open_bitpacked))]
+pub fn load(bytes: &[u8], head: Head) -> Result<(Column, Option<usize>), Refusal>
+    ensures { answered_by result ≡ column_in (open_bitpacked bytes.now head) }
 {
     let width = bitpacker::compute_num_bits(head.count);
     let size = bitpacker::packed_len(head.rows as usize, width);
     if !word::ends_within(head.next, size, bytes.len()) {
-        return Opened::Refused(Refusal::AreaShort);
+        return Err(Refusal::AreaShort);
     }
-    let spelling = head.spelling;
-    let column = head.column(head.next, size, Codec::Bitpacked);
-    Opened::Column(column, spelling)
+    Ok((head.column(head.next, size, Codec::Bitpacked), head.longer))
 }
 
 // Internal: asks for a Bitpacked column whose maximum has 64 bits and whose area starts within the bytes. The value of a row, which no block has a part in.
-pub fn get_val(column: Column, bytes: &[u8], row: ColumnRow) -> RowRead
+pub fn get_val(column: Column, bytes: &[u8], row: ColumnRow) -> Result<u64, Refusal>
     requires { Readable column bytes.now }
-    ensures { (block : Block) → row_meaning result ≡ value_in column.codec column block row.0 (packed_of column block bytes.now row.0) }
+    ensures { (block : Block) → answered_by result ≡ value_in column.codec column block row.0 (packed_of column block bytes.now row.0) }
 {
     let start = column.start;
     let width = bitpacker::compute_num_bits(column.count);

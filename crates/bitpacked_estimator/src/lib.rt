@@ -31,13 +31,10 @@ fn pack_normalised(kind: Kind, values: &[u64], stats: ColumnStats, bits: u8, out
 {
     let minimum = stats.minimum;
     let gcd = word::divisor::ready(stats.gcd);
-    let rows = values.len();
     let mut packer = BitPacker::new();
-    let mut i = 0;
-    while i < rows {
-        let v = monotonic_mapping::stored_of(kind, values[i]);
+    for value in values {
+        let v = monotonic_mapping::stored_of(kind, *value);
         packer = packer.write(out, word::divisor::quotient(gcd, v - minimum), bits);
-        i += 1;
     }
     packer.close(out);
 }

@@ -3,16 +3,20 @@
 --     place_fits, row_next                               a row's first bit fits a word, and the next row's
 --     part_byte, part_shift, part_most, part_less        number k of eight that start with a byte: where it lies
 --     group_row, group_starts, group_inside, group_next  a group of eight in its area, and the next one
+--     Grouping                                           what a loop over groups holds to
+--     part_length, Single, single_more, single_ends      single rows, to a part of a list
 -- Assumes nothing.
 use mathlib.Core.Path.{◌≡◌, ap, ◌∙◌}
 use mathlib.Core.Logic.{⊎_elim}
-use mathlib.Core.List.{List}
+use mathlib.Core.List.{List, ◌++◌}
 use Prim.Native.Nat.{ℕ, ◌+◌, ◌-◌, ◌*◌, ◌/◌, ◌%◌, ◌^◌, ◌≤◌, ◌<◌}
 use native.Mathlib.Nat.{add-mul, mul_assoc, mul-le-mul_left, mul-le-mul_right, eq-or-lt_of_le, not-suc-le-zero}
 use native.Mathlib.Omega.{arith}
-use lib.ListN.{length, set}
-use lib.Seq.{get_or-set_same, get_or-set_other}
+use lib.ListN.{length, get_or, take, drop, set, length-drop, get_or-append}
+use lib.Seq.{get_or-set_same, get_or-set_other, get_or-take}
+use Rattle.std.proofs.lemmas.List.{get_or-append_right, length-take-le}
 use Rattle.format.specs.Packing.{unpack}
+use Rattle.format.proofs.Lists.{below_or}
 use Rattle.format.proofs.Widths.{legal_most}
 use mathlib.Core.Bool.{true}
 use Rattle.format.specs.Packing.{legal}
@@ -115,10 +119,42 @@ pub record Grouping (w first from to : ℕ) (area before list : List ℕ) (at i 
   pub kept : length list ≡ length before
   pub done : Unpacked w area first from before → Unpacked w area first i list
 
--- and the one over single rows
-pub record Single (w first from to : ℕ) (area before list : List ℕ) (bit i : ℕ) : Type 0 where
-  pub low : from ≤ i
-  pub high : i ≤ to
-  pub place : bit ≡ (first + i) * w
-  pub kept : length list ≡ length before
-  pub done : Unpacked w area first from before → Unpacked w area first i list
+-- how long a part of a list is
+pub part_length : (from to : ℕ) (list : List ℕ) → to ≤ length list → length (take (to - from) (drop from list)) ≡ to - from
+part_length from to list h = length-take-le (to - from) (drop from list) (omega (arith, length-drop from list))
+
+-- and the one over single rows: so many entries of the list's part that begins at `from` are done, and the next row's first bit is `bit`
+pub record Single (w first from : ℕ) (area part : List ℕ) (bit n : ℕ) : Type 0 where
+  pub place : bit ≡ (first + (from + n)) * w
+  pub done : (k : ℕ) → k < n → get_or part k 0 ≡ unpack w area (first + (from + k))
+
+module _ {w first from : ℕ} {area part : List ℕ} {bit n : ℕ} (s : Single w first from area part bit n) where
+  pub single_more : {v : ℕ} → n < length part → v ≡ unpack w area (first + (from + n)) → Single w first from area (set part n v) (bit + w) (n + 1)
+  single_more {v} h e = record {
+    place = omega (arith, s.place, row_next w (first + from) n, ap (λ (r : ℕ). r * w) (row_of n), ap (λ (r : ℕ). r * w) (row_of (n + 1)));
+    done = λ (k : ℕ) (less : k < n + 1).
+        ⊎_elim
+        (λ (is : k ≡ n). rw is (get_or-set_same part n v 0 h ∙ e))
+        (λ (before : k < n). get_or-set_other part n k v 0 (λ (q : k ≡ n). omega arith) ∙ s.done k before)
+        (eq-or-lt_of_le (omega arith));
+  }
+    where
+      row_of : (k : ℕ) → first + from + k ≡ first + (from + k)
+      row_of k = omega arith
+
+  -- the part is put back between what stood before it and behind it
+  pub single_ends : {to : ℕ} {before : List ℕ} (behind : List ℕ) → from ≤ length before → to ≤ from + n → n ≤ length part → Unpacked w area first from before → Unpacked w area first to (take from before ++ (part ++ behind))
+  single_ends {to} {before} behind inside far some u =
+      let front : length (take from before) ≡ from = length-take-le from before inside in
+      record {
+        sofar = λ (i : ℕ) (k : i < to).
+            ⊎_elim
+            (λ (low : i < from). get_or-append (take from before) (part ++ behind) 0 i (omega arith) ∙ get_or-take from before i 0 low ∙ u.sofar i low)
+            (λ (high : from ≤ i).
+            let here : from + (i - from) ≡ i = omega arith in
+            get_or-append_right (take from before) (part ++ behind) from i 0 front high
+            ∙ get_or-append part behind 0 (i - from) (omega arith)
+            ∙ s.done (i - from) (omega arith)
+            ∙ ap (λ (r : ℕ). unpack w area (first + r)) here)
+            (below_or i from);
+      }

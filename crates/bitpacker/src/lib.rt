@@ -27,18 +27,12 @@ pub fn packed_len(rows: usize, width: u8) -> usize
 }
 
 // Stores the `n` lowest bytes of `word` from `at` on, little end first. Where `n` is a literal 8 the compiled code has one
-// store for the loop.
+// store.
 fn put(out: &mut [u8], at: usize, word: u64, n: usize)
     requires { (at + n ≤ length out.old) × (n ≤ 8) }
     ensures { out.new ≡ take at out.old ++ num_bytes n word ++ drop (at + n) out.old }
 {
-    let mut rest = word;
-    let mut k = 0;
-    while k < n {
-        out[at + k] = (rest % 256) as u8;
-        rest = rest / 256;
-        k += 1;
-    }
+    out[at..at + n].copy_from_slice(&word.to_le_bytes()[..n]);
 }
 
 // Numbers on their way into bytes: `at` bytes stand written, a word of eight at a time, and `held` bits, fewer than 64,
@@ -105,10 +99,8 @@ pub fn pack(values: &[u64], width: u8, out: &mut [u8])
     ensures { out.new ≡ packed width values.now ++ drop (bytes_for (width * length values.now)) out.old }
 {
     let mut packer = BitPacker::new();
-    let mut i = 0;
-    while i < values.len() {
-        packer = packer.write(out, values[i], width);
-        i += 1;
+    for value in values {
+        packer = packer.write(out, *value, width);
     }
     packer.close(out);
 }
@@ -120,9 +112,7 @@ fn gather(area: &[u8], at: usize, n: usize) -> u64
     ensures { result ≡ bytes_num (take n (drop at area.now)) }
 {
     let mut word: u64 = 0;
-    let mut k = n;
-    while 0 < k {
-        k -= 1;
+    for k in (0..n).rev() {
         let byte = area[at + k] as u64;
         word = word * 256 + byte;
     }
@@ -212,11 +202,9 @@ fn singly(area: &[u8], width: u8, first: u32, from: usize, to: usize, out: &mut 
 {
     let step = width as usize;
     let mut bit = (first as usize + from) * step;
-    let mut i = from;
-    while i < to {
-        out[i] = get_at(area, width, bit);
+    for value in &mut out[from..to] {
+        *value = get_at(area, width, bit);
         bit += step;
-        i += 1;
     }
 }
 
@@ -286,6 +274,7 @@ fn groups(area: &[u8], width: u8, rest: usize, first: u32, from: usize, to: usiz
     let whole = step / 8;
     let mut at = (first as usize + from) * step / 8;
     let mut i = from;
+    // Counted by hand: with `step_by` a group costs more instructions, and with a count of groups a short run.
     while i < to {
         put_eight(area, at, whole, rest, width, out, i);
         at += step;

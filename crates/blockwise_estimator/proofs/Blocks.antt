@@ -24,19 +24,17 @@ part_map f at n vs = take-map f n (drop at vs) ∙ ap (take n) (drop-map f at vs
 
 -- rows are left: the next block, and the blocks behind it
 pub blocks_next : (xs : List ℕ) (at size : ℕ) → at < length xs → size ≡ min 512 (length xs - at)
-    → blocks (drop at xs) ≡ take size (drop at xs) ∷ blocks (drop (at + size) xs)
+    → blocks (drop at xs) ≡ take size (drop at xs) ∷ blocks (drop (at + 512) xs)
 unfolding blocks blocks_in
 blocks_next xs at size h e =
     let left = length-drop at xs in
-    let behind = length-drop (at + size) xs in
-    let count : block_count (length (drop at xs)) ≡ suc (block_count (length (drop (at + size) xs))) = omega arith in
+    let behind = length-drop (at + 512) xs in
+    let count : block_count (length (drop at xs)) ≡ suc (block_count (length (drop (at + 512) xs))) = omega arith in
     ⊎_elim
     (λ (short : length xs - at < 512).
     let none_left : length (drop at xs) ≤ 512 = omega arith in
     let all : take 512 (drop at xs) ≡ take size (drop at xs) = take_all 512 (drop at xs) none_left ∙ sym (take_all size (drop at xs) (omega arith)) in
-    let past : drop 512 (drop at xs) ≡ drop (at + size) xs =
-    drop_of_length-le (drop at xs) {i = 512} none_left ∙ sym (drop_of_length-le xs {i = at + size} (omega arith)) in
-    rw (count, all, past))
+    rw (count, all, drop-drop 512 at xs))
     (λ (full : 512 ≤ length xs - at).
     let whole : size ≡ 512 = omega arith in
     rw (count, whole, drop-drop 512 at xs))
@@ -49,7 +47,7 @@ blocks_none xs at h = rw (drop_of_length-le xs h)
 
 -- what f makes of the next block stands before what it makes of the blocks behind it
 pub joined_next : (f : List ℕ → List ℕ) (xs : List ℕ) (at size : ℕ) → at < length xs → size ≡ min 512 (length xs - at)
-    → joined f (blocks (drop at xs)) ≡ f (take size (drop at xs)) ++ joined f (blocks (drop (at + size) xs))
+    → joined f (blocks (drop at xs)) ≡ f (take size (drop at xs)) ++ joined f (blocks (drop (at + 512) xs))
 unfolding joined
 joined_next f xs at size h e = rw (blocks_next xs at size h e)
 

@@ -1,13 +1,13 @@
 -- The whole body and its estimate, from what the blocks take.
 --     above_of                                the values can be normalised by their own statistics
---     raw, raw_above                          by minimum 0 and gcd 1 they are themselves
+--     raw                                     by minimum 0 and gcd 1 they are themselves
 --     takes_few                               fewer than 2^32 values take little, and their footer's length has four bytes
 --     body-length, body_takes, wrote_body     the body, part by part
 --     estimate_is, estimate_none              the estimate
 -- Assumes nothing.
+use Rattle.std.specs.Prelude.{Some}
 use Prim.Native.Nat.{ℕ, ◌+◌, ◌-◌, ◌/◌, ◌^◌, ◌≤◌, ◌<◌}
 use mathlib.Core.Path.{◌≡◌, refl, sym, ap, ap₂, ◌∙◌}
-use mathlib.Core.Option.{some}
 use mathlib.Core.List.{List, [], ◌∷◌, ◌++◌, map, append_assoc}
 use native.Mathlib.Nat.{zero-add}
 use native.Mathlib.Omega.{arith}
@@ -39,9 +39,6 @@ raw (v ∷ vs) = ap₂ (λ (x : ℕ) (xs : List ℕ). x ∷ xs) (same v) (raw vs
   where
     same : (v : ℕ) → (v - 0) / 1 ≡ v
     same v = omega arith
-
-pub raw_above : (vs : List ℕ) → Above 0 1 vs
-raw_above vs = record { some = omega arith; each = λ k h. omega arith }
 
 -- ---- what the blocks take
 
@@ -95,12 +92,12 @@ module _ (s : ColumnStats) (vs : List ℕ) (sizes : Sizes) (whole less : ℕ) (t
       let fields : sizes.footer ≡ length (entries vs) = t.fields ∙ ap (λ (l : List ℕ). length (entries l)) (raw vs) in
       omega (arith, shares (blocks vs))
 
-  pub estimate_is : some (whole - less) ≡ size_of 2 s vs
+  pub estimate_is : Some (whole - less) ≡ size_of 2 s vs
   unfolding size_of
   estimate_is = rw (whole_is, l)
 
   -- never below 0
-  pub estimate_none : whole < less → some 0 ≡ size_of 2 s vs
+  pub estimate_none : whole < less → Some 0 ≡ size_of 2 s vs
   estimate_none h =
       let none : 0 ≡ whole - less = omega arith in
       rw none estimate_is

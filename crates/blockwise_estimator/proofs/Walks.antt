@@ -1,9 +1,9 @@
 -- The walks over all blocks: what holds where a block begins, and what a turn makes of it.
---     Measuring, measuring_starts, measuring_next, measuring_ends                   adding up what the blocks take
---     Placing, placing_starts, placing_room, placing_next, placing_ends             writing them, at two places
+--     Measuring, measuring_next, measuring_ends               adding up what the blocks take
+--     Placing, placing_room, placing_next, placing_ends       writing them, at two places
 -- Assumes nothing.
 use Prim.Native.Nat.{ℕ, ◌+◌, ◌-◌, ◌*◌, ◌≤◌, ◌<◌, min}
-use mathlib.Core.Path.{◌≡◌, refl, sym, ap, ap₂, ◌∙◌}
+use mathlib.Core.Path.{◌≡◌, sym, ap, ap₂, ◌∙◌}
 use mathlib.Core.List.{List, [], ◌++◌}
 use native.Mathlib.Omega.{arith}
 use lib.ListN.{length, take, drop, length-append, length-drop}
@@ -23,18 +23,18 @@ module _ (xs : List ℕ) (at size : ℕ) (h : at < length xs) (e : size ≡ min 
   part_length : length (take size (drop at xs)) ≡ size
   part_length = length-take-le size (drop at xs) (omega (arith, length-drop at xs))
 
-  areas_next : areas (drop at xs) ≡ block_area (take size (drop at xs)) ++ areas (drop (at + size) xs)
+  areas_next : areas (drop at xs) ≡ block_area (take size (drop at xs)) ++ areas (drop (at + 512) xs)
   areas_next = joined_next block_area xs at size h e
 
-  entries_next : entries (drop at xs) ≡ block_entry (take size (drop at xs)) ++ entries (drop (at + size) xs)
+  entries_next : entries (drop at xs) ≡ block_entry (take size (drop at xs)) ++ entries (drop (at + 512) xs)
   unfolding footer
   entries_next = joined_next block_entry xs at size h e
 
-  areas_parted : length (areas (drop at xs)) ≡ length (block_area (take size (drop at xs))) + length (areas (drop (at + size) xs))
-  areas_parted = ap length areas_next ∙ length-append (block_area (take size (drop at xs))) (areas (drop (at + size) xs))
+  areas_parted : length (areas (drop at xs)) ≡ length (block_area (take size (drop at xs))) + length (areas (drop (at + 512) xs))
+  areas_parted = ap length areas_next ∙ length-append (block_area (take size (drop at xs))) (areas (drop (at + 512) xs))
 
-  entries_parted : length (entries (drop at xs)) ≡ length (block_entry (take size (drop at xs))) + length (entries (drop (at + size) xs))
-  entries_parted = ap length entries_next ∙ length-append (block_entry (take size (drop at xs))) (entries (drop (at + size) xs))
+  entries_parted : length (entries (drop at xs)) ≡ length (block_entry (take size (drop at xs))) + length (entries (drop (at + 512) xs))
+  entries_parted = ap length entries_next ∙ length-append (block_entry (take size (drop at xs))) (entries (drop (at + 512) xs))
 
 -- no rows are left
 areas_none : (xs : List ℕ) (at : ℕ) → length xs ≤ at → areas (drop at xs) ≡ []
@@ -47,18 +47,14 @@ entries_none xs at h = joined_none block_entry xs at h
 -- ---- measuring: what the blocks passed take and what those from `at` on take make the whole
 pub record Measuring (xs : List ℕ) (rows area footer at : ℕ) : Type 0 where
   pub count : length xs ≡ rows
-  pub within : at ≤ rows
   pub packs : area + length (areas (drop at xs)) ≡ length (areas xs)
   pub fields : footer + length (entries (drop at xs)) ≡ length (entries xs)
-  pub area_few : area ≤ 8 * at
-  pub footer_few : footer ≤ 21 * at
-
-pub measuring_starts : (xs : List ℕ) (rows : ℕ) → length xs ≡ rows → Measuring xs rows 0 0 0
-measuring_starts xs rows e = record { count = e; within = omega arith; packs = omega arith; fields = omega arith; area_few = omega arith; footer_few = omega arith }
+  pub area_few : area ≤ 8 * min at rows
+  pub footer_few : footer ≤ 21 * min at rows
 
 module _ {xs : List ℕ} {rows area footer at : ℕ} (m : Measuring xs rows area footer at) where
   pub measuring_next : {size : ℕ} {s : Sizes} → at < rows → size ≡ min 512 (rows - at) → BlockTakes (take size (drop at xs)) s
-      → Measuring xs rows (area + s.area) (footer + s.footer) (at + size)
+      → Measuring xs rows (area + s.area) (footer + s.footer) (at + 512)
   measuring_next {size} {s} below cut t =
       let h : at < length xs = rw m.count below in
       let e : size ≡ min 512 (length xs - at) = rw m.count cut in
@@ -66,7 +62,6 @@ module _ {xs : List ℕ} {rows area footer at : ℕ} (m : Measuring xs rows area
       let long = part_length xs at size h e in
       record {
         count = m.count;
-        within = omega arith;
         packs = omega (arith, m.packs, t.packs, areas_parted xs at size h e);
         fields = omega (arith, m.fields, t.fields, entries_parted xs at size h e);
         area_few = omega (arith, m.area_few, t.packs, area_most ys);
@@ -83,15 +78,11 @@ module _ {xs : List ℕ} {rows area footer at : ℕ} (m : Measuring xs rows area
 -- ---- writing at two places: the areas of the blocks from `at` on go to p, and their entries to q, behind all areas
 pub record Placing (xs : List ℕ) (rows : ℕ) (old : List ℕ) (start mid : ℕ) (out : List ℕ) (p q at : ℕ) : Type 0 where
   pub count : length xs ≡ rows
-  pub within : at ≤ rows
   pub areas_end : p + length (areas (drop at xs)) ≡ mid
   pub behind : mid ≤ q
   pub entries_end : q + length (entries (drop at xs)) ≡ mid + length (entries xs)
   pub kept : length out ≡ length old
   pub list : sets (sets out p (areas (drop at xs))) q (entries (drop at xs)) ≡ sets (sets old start (areas xs)) mid (entries xs)
-
-pub placing_starts : (xs : List ℕ) (rows : ℕ) (old : List ℕ) (start mid : ℕ) → length xs ≡ rows → mid ≡ start + length (areas xs) → Placing xs rows old start mid old start mid 0
-placing_starts xs rows old start mid n e = record { count = n; within = omega arith; areas_end = sym e; behind = omega arith; entries_end = refl; kept = refl; list = refl }
 
 -- bytes at two places, then more behind each: the same as all at once
 both : (old : List ℕ) (p q : ℕ) (a more e es : List ℕ) → p + length (a ++ more) ≤ q
@@ -116,24 +107,23 @@ module _ {xs : List ℕ} {rows : ℕ} {old : List ℕ} {start mid : ℕ} {out : 
 
   pub placing_next : {size : ℕ} {new : List ℕ} {next : Fronts} → at < rows → size ≡ min 512 (rows - at)
       → Placed (take size (drop at xs)) out p q new next
-      → Placing xs rows old start mid new next.area next.footer (at + size)
+      → Placing xs rows old start mid new next.area next.footer (at + 512)
   placing_next {size} {new} {next} below cut w =
       let h : at < length xs = rw f.count below in
       let e : size ≡ min 512 (length xs - at) = rw f.count cut in
       let ys = take size (drop at xs) in
       let a = areas_parted xs at size h e in
       let b = entries_parted xs at size h e in
-      let room : p + length (block_area ys ++ areas (drop (at + size) xs)) ≤ q = omega (arith, f.areas_end, f.behind, ap length (areas_next xs at size h e)) in
+      let room : p + length (block_area ys ++ areas (drop (at + 512) xs)) ≤ q = omega (arith, f.areas_end, f.behind, ap length (areas_next xs at size h e)) in
       record {
         count = f.count;
-        within = omega arith;
         areas_end = omega (arith, f.areas_end, w.behind_area);
         behind = omega (arith, f.behind, w.behind_entry);
         entries_end = omega (arith, f.entries_end, w.behind_entry);
         kept = rw (w.list, length-sets, length-sets) f.kept;
         list =
             rw (w.list, w.behind_area, w.behind_entry)
-            (both out p q (block_area ys) (areas (drop (at + size) xs)) (block_entry ys) (entries (drop (at + size) xs)) room
+            (both out p q (block_area ys) (areas (drop (at + 512) xs)) (block_entry ys) (entries (drop (at + 512) xs)) room
             ∙ ap₂ (λ (x y : List ℕ). sets (sets out p x) q y) (sym (areas_next xs at size h e)) (sym (entries_next xs at size h e)) ∙ f.list);
       }
 

@@ -2,7 +2,6 @@
 #![tactic(auto)]
 
 ghost use Rattle.std.specs.Prelude.{◌≡◌, ◌++◌, map, ◌+◌, ◌-◌, ◌/◌, ◌^◌, ◌≤◌, ◌<◌, min as lesser, length, take, drop};
-ghost use Rattle.std.proofs.Math.Option.{some};
 ghost use Rattle.format.specs.Outcome.{Wrote};
 ghost use Rattle.format.specs.Packing.{packed, num_bytes};
 ghost use Rattle.format.specs.Stats.{spell_head};
@@ -41,11 +40,8 @@ struct Fronts {
 fn to_residuals(ys: &mut [u64], line: Line)
     ensures { ys.new ≡ residuals line ys.old }
 {
-    let mut i = 0;
-    while i < ys.len() {
-        let y = ys[i];
-        ys[i] = line::residual(line, i as u64, y);
-        i += 1;
+    for (i, y) in ys.iter_mut().enumerate() {
+        *y = line::residual(line, i as u64, *y);
     }
 }
 
@@ -53,13 +49,7 @@ fn to_residuals(ys: &mut [u64], line: Line)
 fn greatest(ys: &[u64]) -> u64
     ensures { result ≡ stated.greatest ys.now }
 {
-    let mut most = 0;
-    let mut i = 0;
-    while i < ys.len() {
-        most = word::larger(most, ys[i]);
-        i += 1;
-    }
-    most
+    ys.iter().copied().max().unwrap_or(0)
 }
 
 // Trains a block, and leaves its residuals in its place.
@@ -79,11 +69,9 @@ fn load(kind: Kind, values: &[u64], at: usize, minimum: u64, gcd: u64, block: &m
     ensures { block.new ≡ normals minimum gcd (take (length block.old) (drop at (stored_as kind values.now))) }
 {
     let by = word::divisor::ready(gcd);
-    let mut i = 0;
-    while i < block.len() {
+    for (i, x) in block.iter_mut().enumerate() {
         let v = monotonic_mapping::stored_of(kind, values[at + i]);
-        block[i] = word::divisor::quotient(by, v - minimum);
-        i += 1;
+        *x = word::divisor::quotient(by, v - minimum);
     }
 }
 
@@ -127,13 +115,11 @@ pub fn measure(kind: Kind, values: &[u64], minimum: u64, gcd: u64) -> Sizes
     let rows = values.len();
     let mut area: usize = 0;
     let mut footer: usize = 0;
-    let mut at: usize = 0;
-    while at < rows {
+    for at in (0..rows).step_by(512) {
         let size = part_size(rows - at);
         let sizes = part_sizes(kind, values, at, size, minimum, gcd);
         area += sizes.area;
         footer += sizes.footer;
-        at += size;
     }
     Sizes { area, footer }
 }
@@ -220,13 +206,11 @@ fn write_blocks(
     let rows = values.len();
     let mut area: usize = 0;
     let mut footer = mid;
-    let mut at: usize = 0;
-    while at < rows {
+    for at in (0..rows).step_by(512) {
         let size = part_size(rows - at);
         let fronts = part_write(kind, values, at, size, minimum, gcd, out, area, footer);
         area = fronts.area;
         footer = fronts.footer;
-        at += size;
     }
     footer
 }
@@ -277,7 +261,7 @@ pub fn body_len(stats: ColumnStats, sizes: Sizes) -> usize
 // gcd is thought to save.
 pub fn estimate(kind: Kind, values: &[u64], stats: ColumnStats) -> u64
     requires { Describes stats (stored_as kind values.now) }
-    ensures { some result ≡ size_of 2 stats (stored_as kind values.now) }
+    ensures { Some result ≡ size_of 2 stats (stored_as kind values.now) }
 {
     let sizes = measure(kind, values, 0, 1);
     let whole = body_len(stats, sizes) as u64;

@@ -2,6 +2,7 @@
 --     length_step, length_small             the last bytes as one number, gathered from the end
 --     column_by_area                        what opening finds depends on the blocks only through the bytes of their area and their spelling
 -- Assumes nothing.
+use Rattle.std.specs.Prelude.{Option}
 use mathlib.Core.Path.{◌≡◌, refl, ap, ◌∙◌}
 use mathlib.Core.Bool.{Bool, true, false, ◌&&◌}
 use mathlib.Core.List.{List, [], ◌∷◌}
@@ -12,7 +13,6 @@ use lib.ListN.{length, drop, get_or, length-drop}
 use lib.Seq.{drop-cons, take_all}
 use Rattle.format.specs.declared.Column.{Column}
 use Rattle.format.specs.declared.Head.{Head}
-use Rattle.format.specs.declared.Spelling.{Spelling}
 use Rattle.format.specs.Outcome.{Outcome, Outcome.value, Outcome.refusal, ◌>>=◌, ◌>>◌, demand}
 use Rattle.format.specs.Word.{AllBelow}
 use Rattle.format.specs.Packing.{bytes_num}
@@ -75,5 +75,5 @@ column_by_area s h room =
     let inner : Outcome Loaded = blocks >>= (λ (t : Table). demand (leb (h.next + t.area) end) 10 [] >> value (blockwise_of h t)) in
     ap column_in (both four fits 10 [] (demand enough 11 also >> inner))
     ∙ column_behind (four && fits) 10 [] (demand enough 11 also >> inner)
-    ∙ ap (λ (o : Outcome (Column × Spelling)). demand (four && fits) 10 [] >> o)
-    (column_behind enough 11 also inner ∙ ap (λ (o : Outcome (Column × Spelling)). demand enough 11 also >> o) (column_area h end blocks))
+    ∙ ap (λ (o : Outcome (Column × (Option ℕ))). demand (four && fits) 10 [] >> o)
+    (column_behind enough 11 also inner ∙ ap (λ (o : Outcome (Column × (Option ℕ))). demand enough 11 also >> o) (column_area h end blocks))

@@ -1,10 +1,10 @@
 -- What is known while a footer is read for its end alone; a block carries it on.
---     LastSoFar, ending-starts, -more, -refused, -ends
+--     LastSoFar, ending_more, -refused, -ends
 --     last_refused, last_found
 -- Assumes nothing.
-use mathlib.Core.Path.{◌≡◌, refl, sym, ap, ◌∙◌}
+use mathlib.Core.Path.{◌≡◌, sym, ap, ◌∙◌}
 use mathlib.Core.List.{List}
-use Prim.Native.Nat.{ℕ, suc, ◌-◌, ◌≤◌, ◌<◌}
+use Prim.Native.Nat.{ℕ, suc, ◌+◌, ◌-◌, ◌≤◌, ◌<◌}
 use native.Mathlib.Omega.{arith}
 use lib.ListN.{length}
 use Rattle.format.specs.declared.Fields.{Fields}
@@ -14,36 +14,33 @@ use Rattle.format.specs.Opening.{read_fields}
 use Rattle.format.specs.Sheets.{last_fields}
 use Rattle.blockwise_linear.specs.Reader.{up_to_length, first_cursor, last_from, last_in}
 
--- `left` blocks are still to come from `at` on, behind one of width `bits`
-pub record LastSoFar (s : List ℕ) (k start left bits at : ℕ) : Type 0 where
-  pub rest : last_fields k s 0 start ≡ last_fields left s bits at
+-- of k blocks i are read, the last of them of width `bits`, and the next is at `at`
+pub record LastSoFar (s : List ℕ) (k start i bits at : ℕ) : Type 0 where
+  pub rest : last_fields k s 0 start ≡ last_fields (k - i) s bits at
 
-pub ending-starts : (s : List ℕ) (k start : ℕ) → LastSoFar s k start k 0 start
-ending-starts s k start = record { rest = refl }
-
-module _ {s : List ℕ} {k start left bits at : ℕ} (e : LastSoFar s k start left bits at) where
+module _ {s : List ℕ} {k start i bits at : ℕ} (e : LastSoFar s k start i bits at) where
   -- a block more
-  one_more : 0 < left → last_fields k s 0 start ≡ last_fields (suc (left - 1)) s bits at
+  one_more : i < k → last_fields k s 0 start ≡ last_fields (suc (k - (i + 1))) s bits at
   one_more more =
-      let one : left ≡ suc (left - 1) = omega arith in
+      let one : k - i ≡ suc (k - (i + 1)) = omega arith in
       e.rest ∙ ap (λ (n : ℕ). last_fields n s bits at) one
 
-  pub ending_more : (f : Fields) → 0 < left → read_fields s at ≡ value f → LastSoFar s k start (left - 1) f.bits f.next
+  pub ending_more : (f : Fields) → i < k → read_fields s at ≡ value f → LastSoFar s k start (i + 1) f.bits f.next
   unfolding last_fields
   ending_more f more is =
-      let next : last_fields (suc (left - 1)) s bits at ≡ last_fields (left - 1) s f.bits f.next = rw is in
+      let next : last_fields (suc (k - (i + 1))) s bits at ≡ last_fields (k - (i + 1)) s f.bits f.next = rw is in
       record { rest = one_more more ∙ next }
 
-  pub ending_refused : (n : ℕ) (also : List ℕ) → 0 < left → read_fields s at ≡ refusal n also → last_fields k s 0 start ≡ refusal n also
+  pub ending_refused : (n : ℕ) (also : List ℕ) → i < k → read_fields s at ≡ refusal n also → last_fields k s 0 start ≡ refusal n also
   unfolding last_fields
   ending_refused n also more is =
-      let next : last_fields (suc (left - 1)) s bits at ≡ refusal n also = rw is in
+      let next : last_fields (suc (k - (i + 1))) s bits at ≡ refusal n also = rw is in
       one_more more ∙ next
 
-  pub ending-ends : left ≤ 0 → last_fields k s 0 start ≡ value (bits, at)
+  pub ending-ends : k ≤ i → last_fields k s 0 start ≡ value (bits, at)
   unfolding last_fields
   ending-ends nothing =
-      let none : left ≡ 0 = omega arith in
+      let none : k - i ≡ 0 = omega arith in
       e.rest ∙ ap (λ (n : ℕ). last_fields n s bits at) none
 
 -- ---- the answer

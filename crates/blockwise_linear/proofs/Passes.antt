@@ -1,13 +1,15 @@
 -- What is known while the blocks are checked, and while the table is filled; a block carries it on.
 --     by_block                                          the blocks from a place on are the block there, and those from the place behind it
 --     step_small                                        the place behind a block
---     Checking, checking_starts, -more, -refused, -ends
+--     Checking, checking_more, -refused, -ends
 --                                                       the first pass
---     BlocksPut, filling_starts, -good, -more, -ends      the second
+--     BlocksPut, filling_good, -more, -ends             the second
 -- Assumes nothing.
+use Rattle.std.specs.Option.{option_or}
+use Rattle.std.specs.Prelude.{Option, Some, None}
 use mathlib.Core.Path.{◌≡◌, refl, sym, ap, ◌∙◌, subst}
 use mathlib.Core.List.{List, [], ◌∷◌}
-use Prim.Native.Nat.{ℕ, suc, ◌+◌, ◌-◌, ◌*◌, ◌^◌, ◌≤◌, ◌<◌, min}
+use Prim.Native.Nat.{ℕ, suc, ◌+◌, ◌-◌, ◌*◌, ◌≤◌, ◌<◌, min}
 use native.Mathlib.Nat.{mul-le-mul_right}
 use native.Mathlib.Numerals.{add-one}
 use native.Mathlib.Omega.{arith}
@@ -15,11 +17,8 @@ use lib.ListN.{length, set, length-set}
 use lib.Seq.{sets}
 use Rattle.format.specs.declared.Block.{Block}
 use Rattle.format.specs.declared.Fields.{Fields}
-use Rattle.format.specs.declared.Spelling.{Spelling}
-use Rattle.format.specs.declared.Spelling.TheVariants.{Shortest, Longer}
 use Rattle.format.specs.Outcome.{Outcome, Outcome.value, Outcome.refusal, ◌>>=◌, stored}
 use Rattle.format.specs.Word.{bytes_for}
-use Rattle.format.specs.Varint.{first_of}
 use Rattle.format.specs.Bodies.{block_count}
 use Rattle.format.specs.Opening.{Table, block_before, read_fields, read_blocks}
 use Rattle.format.proofs.Outcomes.{value_same, by_step}
@@ -27,12 +26,12 @@ use Rattle.format.proofs.Widths.{legal_most}
 use Rattle.format.proofs.LineFields.{fields_read}
 use Rattle.blockwise_linear.specs.declared.reader.Cursor.{Cursor}
 use Rattle.blockwise_linear.specs.declared.reader.Step.{Step}
-use Rattle.blockwise_linear.specs.Reader.{up_to_length, first_cursor, step_of, step_in, blocks_from, area_in, listed, Small, Good, Fillable}
+use Rattle.blockwise_linear.specs.Reader.{up_to_length, first_cursor, step_of, step_in, blocks_from, area_in, listed, Small, Good}
 
 -- nothing longer follows
-first_alone : (p : Spelling) → first_of p Shortest ≡ p
-first_alone Shortest = refl
-first_alone (Longer offset) = refl
+first_alone : (p : Option ℕ) → option_or p None ≡ p
+first_alone None = refl
+first_alone (Some offset) = refl
 
 -- ---- a block and those behind it
 
@@ -42,14 +41,14 @@ before t later =
     record {
       blocks = t.block ∷ later.blocks;
       area = later.area;
-      spelling = first_of t.spelling later.spelling;
+      longer = option_or t.longer later.longer;
     }
 
 abbrev pub behind : Step → Outcome Table → Outcome Table
 behind t o = o >>= (λ (later : Table). value (before t later))
 
 -- no rows are left: no blocks
-none_left : (s : List ℕ) (c : Cursor) → c.left ≤ 0 → blocks_from s c ≡ value (record { blocks = []; area = c.start; spelling = Shortest })
+none_left : (s : List ℕ) (c : Cursor) → c.left ≤ 0 → blocks_from s c ≡ value (record { blocks = []; area = c.start; longer = None })
 unfolding read_blocks
 none_left s c h =
     let none : block_count c.left ≡ 0 = omega arith in
@@ -85,25 +84,22 @@ step_less s c t e = by_step (read_fields (up_to_length s) c.at) _ e λ f at_f e.
 -- ---- the first pass
 
 -- the area and the spelling of some blocks, behind others that were spelled so
-abbrev area_behind : Spelling → Outcome Table → Outcome (ℕ × Spelling)
-area_behind p o = o >>= (λ (t : Table). value (t.area, first_of p t.spelling))
+abbrev area_behind : Option ℕ → Outcome Table → Outcome (ℕ × (Option ℕ))
+area_behind p o = o >>= (λ (t : Table). value (t.area, option_or p t.longer))
 
 -- the blocks from c on give the area that those from the first place on give, and behind those before c their spelling
-pub record Checking (s : List ℕ) (first c : Cursor) (spelling : Spelling) : Type 0 where
+pub record Checking (s : List ℕ) (first c : Cursor) (longer : Option ℕ) : Type 0 where
   pub small : Small c
-  pub rest : area_in (blocks_from s first) ≡ area_behind spelling (blocks_from s c)
-
-pub checking_starts : (s : List ℕ) (first : Cursor) → Small first → Checking s first first Shortest
-checking_starts s first small = record { small = small; rest = refl }
+  pub rest : area_in (blocks_from s first) ≡ area_behind longer (blocks_from s c)
 
 -- a block does not change the area, and its spelling joins those before it
-area_behind_lem : (p : Spelling) (t : Step) (o : Outcome Table) → area_behind p (behind t o) ≡ area_behind (first_of p t.spelling) o
-area_behind_lem Shortest t (value later) = refl
-area_behind_lem (Longer offset) t (value later) = refl
+area_behind_lem : (p : Option ℕ) (t : Step) (o : Outcome Table) → area_behind p (behind t o) ≡ area_behind (option_or p t.longer) o
+area_behind_lem None t (value later) = refl
+area_behind_lem (Some offset) t (value later) = refl
 area_behind_lem p t (refusal n also) = refl
 
-module _ {s : List ℕ} {first c : Cursor} {p : Spelling} (k : Checking s first c p) where
-  pub checking_more : (t : Step) → step_in s c ≡ value t → 0 < c.left → Checking s first t.next (first_of p t.spelling)
+module _ {s : List ℕ} {first c : Cursor} {p : Option ℕ} (k : Checking s first c p) where
+  pub checking_more : (t : Step) → step_in s c ≡ value t → 0 < c.left → Checking s first t.next (option_or p t.longer)
   checking_more t e h =
       record {
         small = step_small s c t k.small e;
@@ -114,7 +110,7 @@ module _ {s : List ℕ} {first c : Cursor} {p : Spelling} (k : Checking s first 
   checking_refused n also e h = k.rest ∙ rw (by_block s c h, e)
 
   pub checking_ends : c.left ≤ 0 → area_in (blocks_from s first) ≡ value (c.start, p)
-  checking_ends h = k.rest ∙ rw (none_left s c h) (ap (λ (q : Spelling). value (c.start, q)) (first_alone p))
+  checking_ends h = k.rest ∙ rw (none_left s c h) (ap (λ (q : Option ℕ). value (c.start, q)) (first_alone p))
 
 -- ---- the second pass
 
@@ -126,17 +122,6 @@ pub record BlocksPut (s : List ℕ) (rows : ℕ) (l₀ : List Block) (c : Cursor
   pub later : Table
   pub good : blocks_from s c ≡ value later
   pub rest : stored (listed (blocks_from s (first_cursor s rows))) l₀ ≡ sets l i later.blocks
-
-pub filling_starts : (s : List ℕ) (rows : ℕ) (l : List Block) → rows < 2 ^ 32 → Fillable s rows (length l) → BlocksPut s rows l (first_cursor s rows) 0 l
-filling_starts s rows l few f =
-    record {
-      small = record { bytes = omega arith };
-      kept = refl;
-      enough = omega (arith, f.enough);
-      later = f.checked.found;
-      good = f.checked.is;
-      rest = rw f.checked.is;
-    }
 
 module _ {s : List ℕ} {rows : ℕ} {l₀ : List Block} {c : Cursor} {i : ℕ} {l : List Block} (k : BlocksPut s rows l₀ c i l) where
   -- a block that was checked is there
@@ -160,5 +145,5 @@ module _ {s : List ℕ} {rows : ℕ} {l₀ : List Block} {c : Cursor} {i : ℕ} 
 
   pub filling_ends : c.left ≤ 0 → l ≡ stored (listed (blocks_from s (first_cursor s rows))) l₀
   filling_ends h =
-      let done : record { blocks = []; area = c.start; spelling = Shortest } ≡ k.later = value_same (sym (none_left s c h) ∙ k.good) in
+      let done : record { blocks = []; area = c.start; longer = None } ≡ k.later = value_same (sym (none_left s c h) ∙ k.good) in
       sym (k.rest ∙ ap (λ (u : Table). sets l i u.blocks) (sym done))

@@ -1,29 +1,21 @@
 -- What the inner answers of reading mean, and what its inner functions ask.
 -- Assumes nothing.
-use Rattle.std.specs.Prelude.{ℕ, ◌+◌, ◌-◌, ◌*◌, ◌^◌, ◌≤◌, ◌<◌, min, ◌≡◌, List, [], leb, length, take, drop}
+use Rattle.std.specs.Option.{option_or}
+use Rattle.std.specs.Prelude.{ℕ, ◌+◌, ◌-◌, ◌*◌, ◌^◌, ◌≤◌, ◌<◌, min, ◌≡◌, List, [], leb, length, take, drop, Option}
 use Rattle.format.specs.declared.Fields.{Fields}
 use Rattle.format.specs.declared.Block.{Block}
 use Rattle.format.specs.declared.Codec.TheVariants.{Blockwise}
 use Rattle.format.specs.declared.Column.{Column}
 use Rattle.format.specs.declared.Head.{Head}
-use Rattle.format.specs.declared.Spelling.{Spelling}
 use Rattle.format.specs.Outcome.{Outcome, Outcome.value, ◌>>=◌, ◌>>◌, demand}
-use Rattle.format.specs.Refusals.{numbered}
 use Rattle.format.specs.Word.{bytes_for}
-use Rattle.format.specs.Varint.{first_of}
 use Rattle.format.specs.Packing.{bytes_num}
 use Rattle.format.specs.Bodies.{block_count}
 use Rattle.format.specs.Opening.{Table, column_of, read_fields, read_blocks}
 use Rattle.format.specs.Sheets.{last_fields}
 use Rattle.blockwise_linear.specs.declared.reader.Cursor.{Cursor}
 use Rattle.blockwise_linear.specs.declared.reader.Last.{Last}
-use Rattle.blockwise_linear.specs.declared.reader.LastRead.{LastRead}
-use Rattle.blockwise_linear.specs.declared.reader.LastRead.TheVariants.{Last as Found, Refused as NoLast}
 use Rattle.blockwise_linear.specs.declared.reader.Step.{Step}
-use Rattle.blockwise_linear.specs.declared.reader.StepRead.{StepRead}
-use Rattle.blockwise_linear.specs.declared.reader.StepRead.TheVariants.{Step as Read, Refused as NotRead}
-use Rattle.blockwise_linear.specs.declared.reader.AreaRead.{AreaRead}
-use Rattle.blockwise_linear.specs.declared.reader.AreaRead.TheVariants.{Area, Refused as NoArea}
 
 -- the bytes before the footer's length: no field of the footer reaches into that
 abbrev pub up_to_length : List ℕ → List ℕ
@@ -43,7 +35,7 @@ step_of c f =
     record {
       block = record { line = f.line; bits = f.bits; start = c.start };
       next = record { at = f.next; start = c.start + bytes_for (f.bits * min c.left 512); left = c.left - 512 };
-      spelling = f.spelling;
+      longer = f.longer;
     }
 
 -- reading the block at a place
@@ -55,27 +47,17 @@ abbrev pub blocks_from : (s : List ℕ) → Cursor → Outcome Table
 blocks_from s c = read_blocks (block_count c.left) (up_to_length s) c.at c.start c.left
 
 -- what was read, as the bytes of the area and the spelling alone
-abbrev pub area_in : Outcome Table → Outcome (ℕ × Spelling)
-area_in o = o >>= (λ (t : Table). value (t.area, t.spelling))
+abbrev pub area_in : Outcome Table → Outcome (ℕ × (Option ℕ))
+area_in o = o >>= (λ (t : Table). value (t.area, t.longer))
 
 -- and as the blocks alone
 abbrev pub listed : Outcome Table → Outcome (List Block)
 listed o = o >>= (λ (t : Table). value t.blocks)
 
 -- the column of a head, its blocks' area and spelling: the area has to end before the footer
-abbrev pub column_over : Head → (footer : ℕ) → ℕ × Spelling → Outcome (Column × Spelling)
+abbrev pub column_over : Head → (footer : ℕ) → ℕ × (Option ℕ) → Outcome (Column × (Option ℕ))
 column_over h footer a =
-    demand (leb (h.next + a.0) footer) 10 [] >> value (column_of h h.next a.0 Blockwise, first_of h.spelling a.1)
-
--- what reading a block found
-abbrev pub step_meaning : StepRead → Outcome Step
-step_meaning (Read s) = value s
-step_meaning (NotRead r) = numbered r
-
--- what checking the blocks found
-abbrev pub area_meaning : AreaRead → Outcome (ℕ × Spelling)
-area_meaning (Area n p) = value (n, p)
-area_meaning (NoArea r) = numbered r
+    demand (leb (h.next + a.0) footer) 10 [] >> value (column_of h h.next a.0 Blockwise, option_or h.longer a.1)
 
 -- the end of a footer of so many rows from an offset on: the last block's width, the offset behind its fields, and where the footer starts and ends
 abbrev pub last_from : (s : List ℕ) (rows start : ℕ) → Outcome Last
@@ -85,11 +67,6 @@ last_from s rows start =
 -- the same from where the footer starts
 abbrev pub last_in : (s : List ℕ) (rows : ℕ) → Outcome Last
 last_in s rows = last_from s rows (first_cursor s rows).at
-
--- what reading it found
-abbrev pub last_meaning : LastRead → Outcome Last
-last_meaning (Found l) = value l
-last_meaning (NoLast r) = numbered r
 
 -- a place whose area can be counted: a row takes at most eight bytes
 pub record Small (c : Cursor) : Type 0 where

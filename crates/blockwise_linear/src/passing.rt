@@ -5,7 +5,7 @@ ghost use Rattle.format.specs.Bodies.{block_count};
 ghost use Rattle.blockwise_linear.specs.Reader.{step_in, blocks_from, first_cursor, Small, Good};
 ghost use Rattle.blockwise_linear.specs.Passing.{onward, passed, Passing};
 
-use crate::reader::{Cursor, NO_BLOCK};
+use crate::reader::Cursor;
 use format::Block;
 
 // How many blocks were passed, the last of them, and the place behind it.
@@ -17,13 +17,14 @@ pub struct Pass {
 }
 
 // The pass over the blocks of so many rows, before the first.
+#[tactic(auto, unfolding(crate::specs::Passing::passed))]
 pub fn begin(bytes: &[u8], rows: u32) -> Pass
     ensures { result ≡ passed bytes.now rows 0 }
 {
     let next = crate::reader::first(bytes, rows);
     Pass {
         count: 0,
-        block: NO_BLOCK,
+        block: Block::default(),
         next,
     }
 }
@@ -57,7 +58,7 @@ pub fn pass_to(bytes: &[u8], rows: u32, pass: Pass, k: usize) -> Pass
     if end < p.count {
         p = begin(bytes, rows);
     }
-    while p.count < end {
+    for _ in p.count..end {
         p = further(bytes, p);
     }
     p

@@ -5,23 +5,11 @@
 ghost use Rattle.std.specs.Prelude.{◌≡◌, ◌&&◌, ◌+◌, ◌-◌, min, leb, length, drop};
 ghost use Rattle.format.specs.Outcome.{Outcome.value};
 ghost use Rattle.format.specs.Packing.{bytes_num};
-ghost use Rattle.format.specs.Refusals.{opened_meaning};
 ghost use Rattle.format.specs.Opening.{open_blockwise, read_fields, column_in};
-ghost use Rattle.line.specs.Meaning.{fields_meaning};
-ghost use Rattle.blockwise_linear.specs.Reader.{step_meaning, area_meaning, last_meaning, last_in, up_to_length, step_in, blocks_from, area_in, column_over, first_cursor, Small, Good};
+ghost use Rattle.blockwise_linear.specs.Reader.{last_in, up_to_length, step_in, blocks_from, area_in, column_over, first_cursor, Small, Good};
+ghost use Rattle.format.specs.Refusals.{answered_by};
 
-use format::{Block, Codec, Head, Line, Opened, Refusal, Spelling};
-use line::FieldsRead;
-
-// A block of a table that has none.
-pub(crate) const NO_BLOCK: Block = Block {
-    line: Line {
-        slope: 0,
-        intercept: 0,
-    },
-    bits: 0,
-    start: 0,
-};
+use format::{Block, Codec, Column, Fields, Head, Refusal};
 
 // A place in the footer: the offset of the next block's fields, the byte of the area where that block starts, and the rows
 // from it on.
@@ -37,21 +25,7 @@ pub struct Cursor {
 pub struct Step {
     pub block: Block,
     pub next: Cursor,
-    pub spelling: Spelling,
-}
-
-// What reading a block finds.
-#[derive(Clone, Copy)]
-pub enum StepRead {
-    Step(Step),
-    Refused(Refusal),
-}
-
-// What checking all blocks finds: how many bytes their area takes, and how their fields are spelled.
-#[derive(Clone, Copy)]
-pub enum AreaRead {
-    Area(usize, Spelling),
-    Refused(Refusal),
+    pub longer: Option<usize>,
 }
 
 // Where the footer ends: four bytes before the end of the column.
@@ -70,9 +44,7 @@ pub fn footer_len(bytes: &[u8]) -> usize
 {
     let end = footer_end(bytes);
     let mut long: u64 = 0;
-    let mut at = bytes.len();
-    while end < at {
-        at -= 1;
+    for at in (end..bytes.len()).rev() {
         long = long * 256 + word::wide(bytes[at]);
     }
     long as usize
@@ -109,22 +81,25 @@ pub(crate) fn block_rows(left: u32) -> u32
     if left < 512 { left } else { 512 }
 }
 
-// Internal: asks that the area's bytes can be counted. The block at a place; its fields are read inside the footer's own bytes.
-fn step_read(bytes: &[u8], c: Cursor) -> StepRead
-    requires { Small c }
-    ensures { step_meaning result ≡ step_in bytes.now c }
+// The fields of a block, read inside the footer's own bytes.
+fn fields_at(bytes: &[u8], at: usize) -> Result<Fields, Refusal>
+    ensures { answered_by result ≡ read_fields (up_to_length bytes.now) at }
 {
     let end = footer_end(bytes);
-    let fields = match line::fields_read(&bytes[..end], c.at) {
-        FieldsRead::Fields(f) => f,
-        FieldsRead::Refused(r) => return StepRead::Refused(r),
-    };
-    let line = fields.line;
-    let spelling = fields.spelling;
+    line::fields_read(&bytes[..end], at)
+}
+
+// Internal: asks that the area's bytes can be counted. The block at a place; its fields are read inside the footer's own bytes.
+#[tactic(auto, unfolding(crate::specs::Reader::step_in))]
+fn step_read(bytes: &[u8], c: Cursor) -> Result<Step, Refusal>
+    requires { Small c }
+    ensures { answered_by result ≡ step_in bytes.now c }
+{
+    let fields = fields_at(bytes, c.at)?;
     let rows = block_rows(c.left);
-    StepRead::Step(Step {
+    Ok(Step {
         block: Block {
-            line,
+            line: fields.line,
             bits: fields.bits as u64,
             start: c.start as u64,
         },
@@ -133,34 +108,30 @@ fn step_read(bytes: &[u8], c: Cursor) -> StepRead
             start: c.start + bitpacker::packed_len(rows as usize, fields.bits),
             left: c.left - rows,
         },
-        spelling,
+        longer: fields.longer,
     })
 }
 
 // Internal: asks that the area's bytes can be counted. The first pass, the long way: every block from a place on is read, their
 // area added up, and the first longer spelling kept.
-fn check_any(bytes: &[u8], place: Cursor) -> AreaRead
+fn check_any(bytes: &[u8], place: Cursor) -> Result<(usize, Option<usize>), Refusal>
     requires { Small place }
-    ensures { area_meaning result ≡ area_in (blocks_from bytes.now place) }
+    ensures { answered_by result ≡ area_in (blocks_from bytes.now place) }
 {
     let mut c = place;
-    let mut spelling = Spelling::Shortest;
+    let mut longer = None;
     while 0 < c.left {
-        let step = match step_read(bytes, c) {
-            StepRead::Step(s) => s,
-            StepRead::Refused(r) => return AreaRead::Refused(r),
-        };
-        let read = step.spelling;
-        spelling = spelling.or_later(read);
+        let step = step_read(bytes, c)?;
+        longer = longer.or(step.longer);
         c = step.next;
     }
-    AreaRead::Area(c.start, spelling)
+    Ok((c.start, longer))
 }
 
 // Internal: asks the same. The first pass, the short way as long as it finds the blocks: then no number is spelled longer.
-fn check(bytes: &[u8], place: Cursor) -> AreaRead
+fn check(bytes: &[u8], place: Cursor) -> Result<(usize, Option<usize>), Refusal>
     requires { Small place }
-    ensures { area_meaning result ≡ area_in (blocks_from bytes.now place) }
+    ensures { answered_by result ≡ area_in (blocks_from bytes.now place) }
 {
     let mut c = place;
     while 0 < c.left {
@@ -174,37 +145,39 @@ fn check(bytes: &[u8], place: Cursor) -> AreaRead
             left: p.left,
         };
     }
-    AreaRead::Area(c.start, Spelling::Shortest)
+    Ok((c.start, None))
 }
 
 // The column of a head whose blocks were checked: its area has to end before the footer.
-fn loaded(head: Head, size: usize, spelling: Spelling, footer: usize) -> Opened
-    ensures { opened_meaning result ≡ column_over head footer (size, spelling) }
+fn loaded(
+    head: Head,
+    size: usize,
+    longer: Option<usize>,
+    footer: usize,
+) -> Result<(Column, Option<usize>), Refusal>
+    ensures { answered_by result ≡ column_over head footer (size, longer) }
 {
     if !word::ends_within(head.next, size, footer) {
-        return Opened::Refused(Refusal::AreaShort);
+        return Err(Refusal::AreaShort);
     }
     let column = head.column(head.next, size, Codec::Blockwise);
-    let first = head.spelling;
-    Opened::Column(column, first.or_later(spelling))
+    Ok((column, head.longer.or(longer)))
 }
 
 // The column of a head: its area comes behind it.
-pub fn load(bytes: &[u8], head: Head, room: usize) -> Opened
-    ensures { opened_meaning result ≡ column_in (open_blockwise bytes.now head room) }
+pub fn load(bytes: &[u8], head: Head, room: usize) -> Result<(Column, Option<usize>), Refusal>
+    ensures { answered_by result ≡ column_in (open_blockwise bytes.now head room) }
 {
     if !footer_fits(bytes, head.next) {
-        return Opened::Refused(Refusal::AreaShort);
+        return Err(Refusal::AreaShort);
     }
     let blocks = format::block_count(head.rows);
     if room < blocks {
-        return Opened::Refused(Refusal::TableShort { blocks });
+        return Err(Refusal::TableShort { blocks });
     }
     let footer = first(bytes, head.rows);
-    match check(bytes, footer) {
-        AreaRead::Area(size, spelling) => loaded(head, size, spelling, footer.at),
-        AreaRead::Refused(r) => Opened::Refused(r),
-    }
+    let (size, longer) = check(bytes, footer)?;
+    loaded(head, size, longer, footer.at)
 }
 
 // Internal: asks for a block that was checked, and that the area's bytes can be counted. The block at a place.
@@ -214,11 +187,11 @@ pub fn next_block(bytes: &[u8], c: Cursor) -> Step
     ensures { step_in bytes.now c ≡ value result }
 {
     match step_read(bytes, c) {
-        StepRead::Step(s) => s,
-        StepRead::Refused(_) => Step {
-            block: NO_BLOCK,
+        Ok(s) => s,
+        Err(_) => Step {
+            block: Block::default(),
             next: c,
-            spelling: Spelling::Shortest,
+            longer: None,
         },
     }
 }
@@ -233,40 +206,21 @@ pub struct Last {
     pub end: usize,
 }
 
-// What reading a footer's end finds.
-#[derive(Clone, Copy)]
-pub enum LastRead {
-    Last(Last),
-    Refused(Refusal),
-}
-
-// The fields of a block, read inside the footer's own bytes.
-fn fields_at(bytes: &[u8], at: usize) -> FieldsRead
-    ensures { fields_meaning result ≡ read_fields (up_to_length bytes.now) at }
-{
-    let end = footer_end(bytes);
-    line::fields_read(&bytes[..end], at)
-}
-
 // The end of the footer of a column of so many rows.
-pub fn footer_last(bytes: &[u8], rows: u32) -> LastRead
-    ensures { last_meaning result ≡ last_in bytes.now rows }
+pub fn footer_last(bytes: &[u8], rows: u32) -> Result<Last, Refusal>
+    ensures { answered_by result ≡ last_in bytes.now rows }
 {
     let end = footer_end(bytes);
     let start = first(bytes, rows).at;
-    let mut left = format::block_count(rows);
+    let blocks = format::block_count(rows);
     let mut bits: u8 = 0;
     let mut at = start;
-    while 0 < left {
-        let fields = match fields_at(bytes, at) {
-            FieldsRead::Fields(f) => f,
-            FieldsRead::Refused(r) => return LastRead::Refused(r),
-        };
+    for _ in 0..blocks {
+        let fields = fields_at(bytes, at)?;
         bits = fields.bits;
         at = fields.next;
-        left -= 1;
     }
-    LastRead::Last(Last {
+    Ok(Last {
         bits,
         at,
         start,

@@ -1,8 +1,7 @@
 // The short way through a footer, for blocks whose numbers are spelled in as few bytes as they can be: writers spell them so. It answers in plain numbers and a
 // bool, each stored and loaded as a whole, for an enum with a value is stored in pieces and loaded in one, which has to wait for both. What the short way does not
 // find is read the long way, in `reader`; so nothing is said of an answer that is not there.
-ghost use Rattle.std.specs.Prelude.{◌≡◌, true, ℕ};
-ghost use Rattle.format.specs.declared.Spelling.TheVariants.{Shortest};
+ghost use Rattle.std.specs.Prelude.{◌≡◌, true, ℕ, None};
 ghost use Rattle.format.specs.Outcome.{Outcome.value};
 ghost use Rattle.format.specs.Varint.{read_varint};
 ghost use Rattle.format.specs.Packing.{legal};
@@ -12,7 +11,7 @@ ghost use Rattle.vint.specs.Meaning.{spelled_by};
 ghost use Rattle.blockwise_linear.specs.Short.{short_field, short_fields, short_step};
 
 use crate::reader::{Cursor, Step};
-use format::{Block, Line, Spelling};
+use format::{Block, Line};
 
 // A number and the offset behind it, where there is one.
 #[derive(Clone, Copy)]
@@ -70,7 +69,7 @@ const NO_STEP: Passed = Passed {
 
 // Whether a varint whose last byte comes behind so many others is told to be spelled in as few bytes as it can be; one that is told is.
 fn shortest(others: usize, last: u64) -> bool
-    ensures { result ≡ true → (at : ℕ) → spelled_by at others last ≡ Shortest }
+    ensures { result ≡ true → (at : ℕ) → spelled_by at others last ≡ None }
 {
     if others == 0 {
         return true;
@@ -85,8 +84,7 @@ fn number_at(s: &[u8], at: usize) -> Number
     let mut number: u64 = 0;
     let mut scale: u64 = 1;
     let mut pos = at;
-    let mut used: usize = 0;
-    while used < 9 {
+    for used in 0..9 {
         if s.len() <= pos {
             return NO_NUMBER;
         }
@@ -101,7 +99,6 @@ fn number_at(s: &[u8], at: usize) -> Number
         number += b * scale;
         scale *= 128;
         pos += 1;
-        used += 1;
     }
     if s.len() <= pos {
         return NO_NUMBER;
@@ -198,6 +195,6 @@ pub fn next_block(bytes: &[u8], c: Cursor) -> Step
             start: p.start,
             left: p.left,
         },
-        spelling: Spelling::Shortest,
+        longer: None,
     }
 }

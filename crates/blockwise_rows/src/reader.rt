@@ -3,12 +3,12 @@ ghost use Rattle.std.specs.Prelude.{◌≡◌, true, ℕ, ◌+◌, ◌*◌, ◌/
 ghost use Rattle.format.specs.Word.{mod_add};
 ghost use Rattle.format.specs.Packing.{legal, unpack};
 ghost use Rattle.format.specs.Line.{line_at};
-ghost use Rattle.format.specs.Refusals.{row_meaning};
 ghost use Rattle.format.specs.Reading.{packed_of, scaled, value_in, value_at};
 ghost use Rattle.format.specs.Runs.{read_run, filled_to};
 ghost use Rattle.blockwise_rows.specs.Reader.{Readable, numbers_start};
+ghost use Rattle.format.specs.Refusals.{answered_by};
 
-use format::{Block, BlockRow, Column, ColumnRow, Line, RowRead};
+use format::{Block, BlockRow, Column, ColumnRow, Line, Refusal};
 
 // A row of the column by its block: the block's number, and the row's within it.
 #[derive(Clone, Copy)]
@@ -45,9 +45,9 @@ fn residual(column: Column, block: Block, bytes: &[u8], row: BlockRow) -> u64
 }
 
 // Internal: asks for a Blockwise column whose maximum has 64 bits, and a block of a legal width that starts within the bytes if it has bits at all. The value of a row, with the row's block.
-pub fn get_val(column: Column, block: Block, bytes: &[u8], row: ColumnRow) -> RowRead
+pub fn get_val(column: Column, block: Block, bytes: &[u8], row: ColumnRow) -> Result<u64, Refusal>
     requires { Readable column block bytes.now }
-    ensures { row_meaning result ≡ value_in column.codec column block row.0 (packed_of column block bytes.now row.0) }
+    ensures { answered_by result ≡ value_in column.codec column block row.0 (packed_of column block bytes.now row.0) }
 {
     let within = split(row).row;
     let number = residual(column, block, bytes, within);

@@ -2,6 +2,7 @@
 --     rows_unfit, rows_found       the answers by the tests
 --     all_told                     of a column that opens, every byte is explained, and what lies behind the last is refused
 -- Assumes nothing.
+use Rattle.std.specs.Prelude.{Option}
 use Prim.Native.Nat.{ℕ, ◌+◌, ◌≤◌, ◌<◌}
 use mathlib.Core.Path.{◌≡◌, refl, sym}
 use mathlib.Core.Bool.{true, false}
@@ -11,7 +12,6 @@ use borrow.Author.Tests.{lt-ltb, le-ltb, le-leb}
 use Rattle.format.specs.declared.Block.{Block}
 use Rattle.format.specs.declared.Column.{Column}
 use Rattle.format.specs.declared.Part.{Part}
-use Rattle.format.specs.declared.Owners.{Owners}
 use Rattle.format.specs.Outcome.{Outcome.value, Outcome.refusal}
 use Rattle.format.specs.Opening.{Loaded, opened}
 use Rattle.format.specs.Parts.{parts_of, owners_at}
@@ -27,7 +27,7 @@ module _ (s : List ℕ) (col : Column) (i : ℕ) where
   unfolding rows_of
   rows_unfit t e = rw e
 
-  pub rows_found : (t : List Block) → fits_at s col i ≡ true → (o : Owners) → o ≡ owners_at col t i → value o ≡ rows_of s col t i
+  pub rows_found : (t : List Block) → fits_at s col i ≡ true → (o : Option (ℕ × ℕ)) → o ≡ owners_at col t i → value o ≡ rows_of s col t i
   unfolding rows_of
   rows_found t e o is = rw (e, is)
 

@@ -8,14 +8,7 @@ ghost use Rattle.format.specs.Parts.{run_owners};
 ghost use Rattle.byte_owner.specs.Bytes.{rows_of};
 ghost use Rattle.byte_owner.specs.Search.{ended, area_search, searched, Searching};
 
-use format::{Block, Codec, Column, Owners, Refusal};
-
-// The rows that own a bit of the byte at an offset.
-#[derive(Clone, Copy)]
-pub enum RowsRead {
-    Owners(Owners),
-    Refused(Refusal),
-}
+use format::{Block, Codec, Column, Refusal};
 
 // A search for the rows of a byte of the area: the next block to ask, how many are left, and the answer if none of them has rows there.
 #[derive(Clone, Copy)]
@@ -23,7 +16,7 @@ pub struct Search {
     pub next: usize,
     pub left: u32,
     pub byte: u64,
-    pub answer: RowsRead,
+    pub answer: Result<Option<(u32, u32)>, Refusal>,
 }
 
 // Whether a width is legal.
@@ -38,30 +31,27 @@ fn is_legal(bits: u64) -> bool
 
 // Internal: asks that the run's rows can be counted. The rows of a run that own a bit of byte `j` of the area: `rows` numbers
 // of `bits` bits, the first that of row `first`, from byte `start` of the area on.
-fn run_owners(start: u64, bits: u64, first: u32, rows: u32, j: u64) -> Owners
+fn run_owners(start: u64, bits: u64, first: u32, rows: u32, j: u64) -> Option<(u32, u32)>
     requires { first + rows < 2 ^ 32 }
     ensures { result ≡ run_owners (record { start = start; bits = bits; first = first; rows = rows }) j }
 {
     if !is_legal(bits) {
-        return Owners::NoRow;
+        return None;
     }
     if j < start {
-        return Owners::NoRow;
+        return None;
     }
     let end = (rows as u64) * bits;
     let byte = j - start;
     if end <= byte {
-        return Owners::NoRow;
+        return None;
     }
     let bit = 8 * byte;
     if end <= bit {
-        return Owners::NoRow;
+        return None;
     }
     let last = word::lesser((bit + 7) / bits, rows as u64 - 1);
-    Owners::Rows {
-        first: first + (bit / bits) as u32,
-        last: first + last as u32,
-    }
+    Some((first + (bit / bits) as u32, first + last as u32))
 }
 
 // The rows of a block with so many rows from it on: 512, in the last perhaps fewer.
@@ -72,7 +62,7 @@ fn block_rows(left: u32) -> u32
 }
 
 // Internal: asks for a block that has rows. The same of block `k`, of so many rows in all.
-fn block_run(block: Block, rows: u32, k: usize, j: u64) -> Owners
+fn block_run(block: Block, rows: u32, k: usize, j: u64) -> Option<(u32, u32)>
     requires { 512 * k < rows }
     ensures { result ≡ run_owners (record { start = block.start; bits = block.bits; first = 512 * k; rows = min (rows - 512 * k) 512 }) j }
 {
@@ -82,7 +72,7 @@ fn block_run(block: Block, rows: u32, k: usize, j: u64) -> Owners
 }
 
 // A search that is over, with its answer.
-fn over(answer: RowsRead) -> Search
+fn over(answer: Result<Option<(u32, u32)>, Refusal>) -> Search
     ensures { result ≡ ended answer }
 {
     Search {
@@ -94,27 +84,24 @@ fn over(answer: RowsRead) -> Search
 }
 
 // By the codec, for a byte of the area: one run is all that Bitpacked and Linear have, so their search is over at once.
+#[tactic(auto, unfolding(crate::specs::Search::area_search))]
 fn begin_at(column: Column, byte: u64) -> Search
     ensures { result ≡ area_search column.codec column.count column.rows byte }
 {
-    let codec = column.codec;
-    match codec {
+    match column.codec {
         Codec::Bitpacked => {
             let bits = word::wide(bitpacker::compute_num_bits(column.count));
-            over(RowsRead::Owners(run_owners(0, bits, 0, column.rows, byte)))
+            over(Ok(run_owners(0, bits, 0, column.rows, byte)))
         }
-        Codec::Linear(_, bits) => over(RowsRead::Owners(run_owners(
-            0,
-            word::wide(bits),
-            0,
-            column.rows,
-            byte,
-        ))),
+        Codec::Linear(_, bits) => {
+            let bits = word::wide(bits);
+            over(Ok(run_owners(0, bits, 0, column.rows, byte)))
+        }
         Codec::Blockwise => Search {
             next: 0,
             left: byte_part::naming::block_count(column.rows),
             byte,
-            answer: RowsRead::Owners(Owners::NoRow),
+            answer: Ok(None),
         },
     }
 }
@@ -124,10 +111,10 @@ pub fn begin(column: Column, bytes: &[u8], offset: usize) -> Search
     ensures { Searching column.rows result × ((table : List Block) → searched table column.rows result ≡ rows_of bytes.now column table offset) }
 {
     if !byte_part::fits_at(column, bytes, offset) {
-        return over(RowsRead::Refused(Refusal::Unfit));
+        return over(Err(Refusal::Unfit));
     }
     if offset < column.start {
-        return over(RowsRead::Owners(Owners::NoRow));
+        return over(Ok(None));
     }
     begin_at(column, (offset - column.start) as u64)
 }
@@ -139,13 +126,13 @@ pub fn step(column: Column, block: Block, search: Search) -> Search
     ensures left_lt_left { result.left < search.left }
 {
     let owners = block_run(block, column.rows, search.next, search.byte);
-    if let Owners::Rows { first: _, last: _ } = owners {
-        return over(RowsRead::Owners(owners));
+    if owners.is_some() {
+        return over(Ok(owners));
     }
     Search {
         next: search.next + 1,
         left: search.left - 1,
         byte: search.byte,
-        answer: RowsRead::Owners(owners),
+        answer: Ok(owners),
     }
 }

@@ -1,6 +1,5 @@
 -- Laws that the functions' proofs cite; the head of each file lists what it offers.
 pub mod Names
 pub mod Seeking
-pub mod Measures
 pub mod Bytes
 pub mod Determined

@@ -1,14 +1,11 @@
 -- Names by their number: behind a list's first ones, in the footer, and how many there are.
 --     nth_front, nth-behind, nth_some, nth_none       a name of two lists, one before the other; what a name that is there says
 --     block_front, footer_front, footer-behind        a name of the footer
---     names_split, names_few, names_front, names-behind
---                                                     all names are the head's and those behind it
---     nth_past, past_two, past_five                   numbers that are none of the first
---     named, unnamed                                  what a caller knows once it has found a name, or none
+--     names_split, names_few, names-behind            all names are the head's and those behind it
 -- Assumes nothing.
+use Rattle.std.specs.Prelude.{Some, None}
 use Prim.Native.Nat.{ℕ, zero, suc, ◌+◌, ◌-◌, ◌*◌, ◌/◌, ◌%◌, ◌^◌, ◌≤◌, ◌<◌}
 use mathlib.Core.Path.{◌≡◌, refl, sym, ap, ◌∙◌}
-use mathlib.Core.Option.{Option, none, some}
 use mathlib.Core.List.{List, [], ◌∷◌, ◌++◌}
 use native.Mathlib.Omega.{arith}
 use lib.ListN.{length, drop, length-append}
@@ -18,9 +15,7 @@ use Rattle.format.specs.declared.PartName.{PartName}
 use Rattle.format.specs.declared.PartName.TheVariants.{BlockSlope, BlockIntercept, BlockWidth, Spare, FooterLength}
 use Rattle.format.specs.Bodies.{block_count}
 use Rattle.format.specs.Parts.{head_names, names, block_names}
-use Rattle.byte_part.specs.declared.naming.Name.{Name}
-use Rattle.byte_part.specs.declared.naming.Name.TheVariants.{Part as Is, Nothing}
-use Rattle.byte_part.specs.Walk.{nth, name_in, names_behind}
+use Rattle.byte_part.specs.Walk.{nth, names_behind}
 
 -- ---- lists of names
 
@@ -35,7 +30,7 @@ nth-behind (n ∷ ns) ms zero q e = absurd (omega arith)
 nth-behind (n ∷ ns) ms (suc p) q e = nth-behind ns ms p q (omega arith)
 
 -- a name that is there stands before the later ones
-pub nth_some : (ns : List PartName) (p : ℕ) (n : PartName) → nth ns p ≡ some n → (p < length ns) × (drop p ns ≡ n ∷ drop (p + 1) ns)
+pub nth_some : (ns : List PartName) (p : ℕ) (n : PartName) → nth ns p ≡ Some n → (p < length ns) × (drop p ns ≡ n ∷ drop (p + 1) ns)
 nth_some [] p n e = absurd (let z : ◌≡◌ {A = ℕ} 0 1 = cc in omega arith)
 nth_some (m ∷ ns) zero n e =
     let same : m ≡ n = cc in
@@ -46,7 +41,7 @@ nth_some (m ∷ ns) (suc p) n e =
     (omega (arith, later.0), later.1 ∙ ap (λ (k : ℕ). n ∷ drop k (m ∷ ns)) (sym one))
 
 -- and behind the last there is none
-pub nth_none : (ns : List PartName) (p : ℕ) → nth ns p ≡ none → drop p ns ≡ []
+pub nth_none : (ns : List PartName) (p : ℕ) → nth ns p ≡ None → drop p ns ≡ []
 nth_none [] zero e = refl
 nth_none [] (suc p) e = refl
 nth_none (m ∷ ns) zero e = absurd (let z : ◌≡◌ {A = ℕ} 0 1 = cc in omega arith)
@@ -66,24 +61,24 @@ block_long b zero = refl
 block_long b (suc n) = omega (arith, block_long (suc b) n)
 
 -- three fields a block
-pub block_front : (b n p : ℕ) → p < 3 * n → nth (block_names b n) p ≡ some (block_name (b + p / 3) (p % 3))
+pub block_front : (b n p : ℕ) → p < 3 * n → nth (block_names b n) p ≡ Some (block_name (b + p / 3) (p % 3))
 unfolding block_names
 block_front b zero p h = absurd (omega arith)
-block_front b (suc n) zero h = ap (λ (k : ℕ). some (BlockSlope k)) (omega arith)
-block_front b (suc n) (suc zero) h = ap (λ (k : ℕ). some (BlockIntercept k)) (omega arith)
-block_front b (suc n) (suc (suc zero)) h = ap (λ (k : ℕ). some (BlockWidth k)) (omega arith)
+block_front b (suc n) zero h = ap (λ (k : ℕ). Some (BlockSlope k)) (omega arith)
+block_front b (suc n) (suc zero) h = ap (λ (k : ℕ). Some (BlockIntercept k)) (omega arith)
+block_front b (suc n) (suc (suc zero)) h = ap (λ (k : ℕ). Some (BlockWidth k)) (omega arith)
 block_front b (suc n) (suc (suc (suc p))) h =
     let block : suc b + p / 3 ≡ b + suc (suc (suc p)) / 3 = omega arith in
     let field : p % 3 ≡ suc (suc (suc p)) % 3 = omega arith in
-    block_front (suc b) n p (omega arith) ∙ ap (λ (k : ℕ). some (block_name k (p % 3))) block ∙ ap (λ (f : ℕ). some (block_name (b + suc (suc (suc p)) / 3) f)) field
+    block_front (suc b) n p (omega arith) ∙ ap (λ (k : ℕ). Some (block_name k (p % 3))) block ∙ ap (λ (f : ℕ). Some (block_name (b + suc (suc (suc p)) / 3) f)) field
 
 abbrev pub footer_names : ℕ → List PartName
 footer_names n = block_names 0 n ++ (Spare ∷ FooterLength ∷ [])
 
-pub footer_front : (n p : ℕ) → p < 3 * n → nth (footer_names n) p ≡ some (block_name (p / 3) (p % 3))
+pub footer_front : (n p : ℕ) → p < 3 * n → nth (footer_names n) p ≡ Some (block_name (p / 3) (p % 3))
 footer_front n p h =
     nth_front (block_names 0 n) (Spare ∷ FooterLength ∷ []) p (omega (arith, block_long 0 n)) ∙ block_front 0 n p h
-    ∙ ap (λ (k : ℕ). some (block_name k (p % 3))) (omega arith)
+    ∙ ap (λ (k : ℕ). Some (block_name k (p % 3))) (omega arith)
 
 pub footer-behind : (n p : ℕ) → 3 * n ≤ p → nth (footer_names n) p ≡ nth (Spare ∷ FooterLength ∷ []) (p - 3 * n)
 footer-behind n p h = nth-behind (block_names 0 n) (Spare ∷ FooterLength ∷ []) p (p - 3 * n) (omega (arith, block_long 0 n))
@@ -101,47 +96,5 @@ names_few Bitpacked rows h = omega arith
 names_few (Linear l w) rows h = omega arith
 names_few Blockwise rows h = omega (arith, length-append (block_names 0 (block_count rows)) (Spare ∷ FooterLength ∷ []), block_long 0 (block_count rows))
 
-pub names_front : (codec : Codec) (rows p : ℕ) → p < 5 → nth (names codec rows) p ≡ nth head_names p
-names_front codec rows p h = ap (λ (ns : List PartName). nth ns p) (names_split codec rows) ∙ nth_front head_names (names_behind codec rows) p h
-
 pub names-behind : (codec : Codec) (rows p : ℕ) → 5 ≤ p → nth (names codec rows) p ≡ nth (names_behind codec rows) (p - 5)
 names-behind codec rows p h = ap (λ (ns : List PartName). nth ns p) (names_split codec rows) ∙ nth-behind head_names (names_behind codec rows) p (p - 5) (omega arith)
-
--- ---- numbers that are none of the first
-
-pub nth_past : (ns : List PartName) (p : ℕ) → length ns ≤ p → nth ns p ≡ none
-nth_past [] p h = refl
-nth_past (n ∷ ns) zero h = absurd (omega arith)
-nth_past (n ∷ ns) (suc p) h = nth_past ns p (omega arith)
-
-pub past_two : (p : ℕ) → (p ≡ 0 → ⊥) → (p ≡ 1 → ⊥) → 2 ≤ p
-past_two zero a b = absurd (a refl)
-past_two (suc zero) a b = absurd (b refl)
-past_two (suc (suc p)) a b = omega arith
-
-pub past_five : (p : ℕ) → (p ≡ 0 → ⊥) → (p ≡ 1 → ⊥) → (p ≡ 2 → ⊥) → (p ≡ 3 → ⊥) → (p ≡ 4 → ⊥) → 5 ≤ p
-past_five zero a b c d e = absurd (a refl)
-past_five (suc zero) a b c d e = absurd (b refl)
-past_five (suc (suc zero)) a b c d e = absurd (c refl)
-past_five (suc (suc (suc zero))) a b c d e = absurd (d refl)
-past_five (suc (suc (suc (suc zero)))) a b c d e = absurd (e refl)
-past_five (suc (suc (suc (suc (suc p))))) a b c d e = omega arith
-
--- ---- names as answers
-
-name_none : (o : Option PartName) → name_in o ≡ Nothing → o ≡ none
-name_none none e = refl
-name_none (some n) e = absurd (let z : ◌≡◌ {A = ℕ} 0 1 = cc in omega arith)
-
-name_some : (o : Option PartName) (n : PartName) → name_in o ≡ Is n → o ≡ some n
-name_some none n e = absurd (let z : ◌≡◌ {A = ℕ} 0 1 = cc in omega arith)
-name_some (some m) n e =
-    let same : m ≡ n = cc in
-    ap (λ (k : PartName). some k) same
-
--- what a caller knows of a number once it has found its name, or none
-pub named : (ns : List PartName) (p : ℕ) {r : Name} {n : PartName} → r ≡ name_in (nth ns p) → r ≡ Is n → nth ns p ≡ some n
-named ns p {r} {n} means e = name_some (nth ns p) n (sym means ∙ e)
-
-pub unnamed : (ns : List PartName) (p : ℕ) {r : Name} → r ≡ name_in (nth ns p) → r ≡ Nothing → nth ns p ≡ none
-unnamed ns p means e = name_none (nth ns p) (sym means ∙ e)

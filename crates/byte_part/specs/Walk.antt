@@ -1,7 +1,6 @@
 -- The parts one after another: the name of each by its number, its bytes and number, and the step to the next.
 -- Assumes nothing.
-use Rattle.std.specs.Prelude.{ℕ, zero, suc, ◌+◌, ◌≡◌, List, [], ◌∷◌, ◌++◌}
-use Rattle.std.proofs.Math.Option.{Option, none, some}
+use Rattle.std.specs.Prelude.{ℕ, zero, suc, ◌+◌, ◌≡◌, List, [], ◌∷◌, ◌++◌, Option, Some, None}
 use Rattle.format.specs.declared.Column.{Column}
 use Rattle.format.specs.declared.PartName.{PartName}
 use Rattle.format.specs.declared.PartName.TheVariants.{Area, Behind, Slope, Intercept, Width, Spare, FooterLength}
@@ -13,24 +12,13 @@ use Rattle.format.specs.Bodies.{block_count}
 use Rattle.format.specs.Varint.{read_varint}
 use Rattle.format.specs.Parts.{names, block_names, spelled_in, number_in, extent, spelled, part_here, part_end}
 use Rattle.byte_part.specs.declared.Cursor.{Cursor}
-use Rattle.byte_part.specs.declared.Walked.{Walked}
-use Rattle.byte_part.specs.declared.Walked.TheVariants.{Part as At, Done}
-use Rattle.byte_part.specs.declared.Sought.{Sought}
-use Rattle.byte_part.specs.declared.Sought.TheVariants.{Part as Held, Nothing as Nowhere}
-use Rattle.byte_part.specs.declared.naming.Name.{Name}
-use Rattle.byte_part.specs.declared.naming.Name.TheVariants.{Part as Is, Nothing}
 use Rattle.byte_part.specs.declared.measuring.Measured.{Measured}
 
 -- a name by its place in a list of names
 abbrev pub nth : List PartName → (p : ℕ) → Option PartName
-nth [] p = none
-nth (n ∷ ns) zero = some n
+nth [] p = None
+nth (n ∷ ns) zero = Some n
 nth (n ∷ ns) (suc p) = nth ns p
-
--- as an answer
-abbrev pub name_in : Option PartName → Name
-name_in none = Nothing
-name_in (some n) = Is n
 
 -- the names behind the head's
 abbrev pub names_behind : Codec → (rows : ℕ) → List PartName
@@ -49,15 +37,10 @@ pub record Spells (s : List ℕ) (at : ℕ) (m : Measured) : Type 0 where
   pub value : m.value ≡ number_in (read_varint s at)
 
 -- the part of a name at a place, and the place behind it; no name: no part is left
-abbrev pub step_to : (s : List ℕ) → Column → Cursor → Option PartName → Walked
-step_to s col c none = Done
-step_to s col c (some n) = At (part_here s col n c.at) (record { number = c.number + 1; at = part_end (part_here s col n c.at) })
+abbrev pub step_to : (s : List ℕ) → Column → Cursor → Option PartName → Option (Part × Cursor)
+step_to s col c None = None
+step_to s col c (Some n) = Some (part_here s col n c.at, record { number = c.number + 1; at = part_end (part_here s col n c.at) })
 
 -- the next part at a place
-abbrev pub walked : (s : List ℕ) → Column → Cursor → Walked
+abbrev pub walked : (s : List ℕ) → Column → Cursor → Option (Part × Cursor)
 walked s col c = step_to s col c (nth (names col.codec col.rows) c.number)
-
--- what a search found, as an answer
-abbrev pub sought : Option Part → Sought
-sought none = Nowhere
-sought (some p) = Held p

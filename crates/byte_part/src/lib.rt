@@ -7,11 +7,9 @@ pub mod naming;
 
 ghost use Rattle.std.specs.Prelude.{◌≡◌};
 ghost use Rattle.format.specs.Parts.{part_at};
-ghost use Rattle.byte_part.specs.Walk.{sought};
 ghost use Rattle.byte_part.specs.Calls.{WalkedAs, FitsAs, PartAs};
 
 use format::{Column, Part, Refusal};
-use naming::Name;
 
 // A place between parts: the number of the next part, and the offset where it begins. The first is part 0 at offset 0.
 #[derive(Clone, Copy)]
@@ -20,63 +18,31 @@ pub struct Cursor {
     pub at: usize,
 }
 
-// The next part and the place behind it; or no part is left.
-#[derive(Clone, Copy)]
-pub enum Walked {
-    Part(Part, Cursor),
-    Done,
-}
-
-// What a search for the part of an offset finds; the offset may lie behind all parts.
-#[derive(Clone, Copy)]
-pub enum Sought {
-    Part(Part),
-    Nothing,
-}
-
-// The part that holds the byte at an offset.
-#[derive(Clone, Copy)]
-pub enum PartRead {
-    Part(Part),
-    Refused(Refusal),
-}
-
-// The part at a place.
-pub fn next_part(column: Column, bytes: &[u8], place: Cursor) -> Walked
+// The part at a place, and the place behind it; or no part is left.
+pub fn next_part(column: Column, bytes: &[u8], place: Cursor) -> Option<(Part, Cursor)>
     ensures { WalkedAs column bytes.now place result }
 {
-    let codec = column.codec;
-    match naming::name_at(codec, column.rows, place.number) {
-        Name::Nothing => Walked::Done,
-        Name::Part(name) => {
-            let part = measuring::part_here(column, bytes, name, place.at);
-            Walked::Part(
-                part,
-                Cursor {
-                    number: place.number + 1,
-                    at: place.at + part.bytes,
-                },
-            )
-        }
-    }
+    let name = naming::name_at(column.codec, column.rows, place.number)?;
+    let part = measuring::part_here(column, bytes, name, place.at);
+    let next = Cursor {
+        number: place.number + 1,
+        at: place.at + part.bytes,
+    };
+    Some((part, next))
 }
 
-// The first part that ends behind an offset.
-fn seek(column: Column, bytes: &[u8], offset: usize) -> Sought
-    ensures { result ≡ sought (part_at bytes.now column offset) }
+// The first part that ends behind an offset, which may lie behind all parts.
+fn seek(column: Column, bytes: &[u8], offset: usize) -> Option<Part>
+    ensures { result ≡ part_at bytes.now column offset }
 {
     let mut place = Cursor { number: 0, at: 0 };
-    loop {
-        match next_part(column, bytes, place) {
-            Walked::Done => return Sought::Nothing,
-            Walked::Part(part, next) => {
-                if offset < next.at {
-                    return Sought::Part(part);
-                }
-                place = next;
-            }
+    while let Some((part, next)) = next_part(column, bytes, place) {
+        if offset < next.at {
+            return Some(part);
         }
+        place = next;
     }
+    None
 }
 
 // Whether column and bytes fit together at an offset: the area lies in the bytes, and so does the offset.
@@ -90,14 +56,12 @@ pub fn fits_at(column: Column, bytes: &[u8], offset: usize) -> bool
 }
 
 // The part that holds the byte at an offset.
-pub fn part_at(column: Column, bytes: &[u8], offset: usize) -> PartRead
+#[tactic(auto, unfolding(crate::specs::Bytes::part_of))]
+pub fn part_at(column: Column, bytes: &[u8], offset: usize) -> Result<Part, Refusal>
     ensures { PartAs column bytes.now offset result }
 {
     if !fits_at(column, bytes, offset) {
-        return PartRead::Refused(Refusal::Unfit);
+        return Err(Refusal::Unfit);
     }
-    match seek(column, bytes, offset) {
-        Sought::Part(part) => PartRead::Part(part),
-        Sought::Nothing => PartRead::Refused(Refusal::Unfit),
-    }
+    seek(column, bytes, offset).ok_or(Refusal::Unfit)
 }

@@ -4,7 +4,6 @@ ghost use Rattle.format.specs.Parts.{behind_end, part_here};
 ghost use Rattle.byte_part.specs.Walk.{Measures, Spells};
 
 use format::{Codec, Column, Part, PartName, Shape};
-use vint::VintRead;
 
 // A part's bytes and number.
 #[derive(Clone, Copy)]
@@ -43,11 +42,11 @@ fn spelling(bytes: &[u8], at: usize) -> Measured
     ensures { Spells bytes.now at result }
 {
     match vint::read(bytes, at) {
-        VintRead::Value(field) => Measured {
+        Ok(field) => Measured {
             bytes: field.used,
             value: field.value,
         },
-        VintRead::Refused(_) => Measured { bytes: 0, value: 0 },
+        Err(_) => Measured { bytes: 0, value: 0 },
     }
 }
 

@@ -3,17 +3,10 @@ ghost use Rattle.std.specs.Prelude.{◌≡◌, [], ◌∷◌, ◌++◌};
 ghost use Rattle.format.specs.Bodies.{block_count};
 ghost use Rattle.format.specs.Parts.{head_names, names, block_names, shape_of};
 ghost use Rattle.byte_part.specs.Names.{which_part, block_of};
-ghost use Rattle.byte_part.specs.Walk.{nth, name_in, names_behind};
+ghost use Rattle.byte_part.specs.Walk.{nth, names_behind};
 ghost use Rattle.format.specs.declared.PartName.TheVariants.{Area, Behind, Slope, Intercept, Width, Spare, FooterLength};
 
 use format::{Codec, PartName, Shape};
-
-// A name, or none: the number is past the last part's.
-#[derive(Clone, Copy)]
-pub enum Name {
-    Part(PartName),
-    Nothing,
-}
 
 // How a part is spelled.
 pub fn shape_of(name: PartName) -> Shape
@@ -85,58 +78,58 @@ pub fn block_of(name: PartName) -> u32
 }
 
 // The code byte and the head.
-fn head_name(number: usize) -> Name
-    ensures { result ≡ name_in (nth head_names number) }
+fn head_name(number: usize) -> Option<PartName>
+    ensures { result ≡ nth head_names number }
 {
     match number {
-        0 => Name::Part(PartName::Code),
-        1 => Name::Part(PartName::Minimum),
-        2 => Name::Part(PartName::Gcd),
-        3 => Name::Part(PartName::Count),
-        4 => Name::Part(PartName::Rows),
-        _ => Name::Nothing,
+        0 => Some(PartName::Code),
+        1 => Some(PartName::Minimum),
+        2 => Some(PartName::Gcd),
+        3 => Some(PartName::Count),
+        4 => Some(PartName::Rows),
+        _ => None,
     }
 }
 
 // Bitpacked, behind the head.
-fn bitpacked_name(number: usize) -> Name
-    ensures { result ≡ name_in (nth (Area ∷ Behind ∷ []) number) }
+fn bitpacked_name(number: usize) -> Option<PartName>
+    ensures { result ≡ nth (Area ∷ Behind ∷ []) number }
 {
     match number {
-        0 => Name::Part(PartName::Area),
-        1 => Name::Part(PartName::Behind),
-        _ => Name::Nothing,
+        0 => Some(PartName::Area),
+        1 => Some(PartName::Behind),
+        _ => None,
     }
 }
 
 // Linear, behind the head.
-fn linear_name(number: usize) -> Name
-    ensures { result ≡ name_in (nth (Slope ∷ Intercept ∷ Width ∷ Area ∷ Behind ∷ []) number) }
+fn linear_name(number: usize) -> Option<PartName>
+    ensures { result ≡ nth (Slope ∷ Intercept ∷ Width ∷ Area ∷ Behind ∷ []) number }
 {
     match number {
-        0 => Name::Part(PartName::Slope),
-        1 => Name::Part(PartName::Intercept),
-        2 => Name::Part(PartName::Width),
-        3 => Name::Part(PartName::Area),
-        4 => Name::Part(PartName::Behind),
-        _ => Name::Nothing,
+        0 => Some(PartName::Slope),
+        1 => Some(PartName::Intercept),
+        2 => Some(PartName::Width),
+        3 => Some(PartName::Area),
+        4 => Some(PartName::Behind),
+        _ => None,
     }
 }
 
 // The footer behind its blocks' fields.
-fn end_name(number: usize) -> Name
-    ensures { result ≡ name_in (nth (Spare ∷ FooterLength ∷ []) number) }
+fn end_name(number: usize) -> Option<PartName>
+    ensures { result ≡ nth (Spare ∷ FooterLength ∷ []) number }
 {
     match number {
-        0 => Name::Part(PartName::Spare),
-        1 => Name::Part(PartName::FooterLength),
-        _ => Name::Nothing,
+        0 => Some(PartName::Spare),
+        1 => Some(PartName::FooterLength),
+        _ => None,
     }
 }
 
 // The footer: three fields a block, and what stands behind them.
-fn footer_name(blocks: u32, number: usize) -> Name
-    ensures { result ≡ name_in (nth (block_names 0 blocks ++ (Spare ∷ FooterLength ∷ [])) number) }
+fn footer_name(blocks: u32, number: usize) -> Option<PartName>
+    ensures { result ≡ nth (block_names 0 blocks ++ (Spare ∷ FooterLength ∷ [])) number }
 {
     let behind = 3 * (blocks as usize);
     if behind <= number {
@@ -144,15 +137,15 @@ fn footer_name(blocks: u32, number: usize) -> Name
     }
     let k = (number / 3) as u32;
     match number % 3 {
-        0 => Name::Part(PartName::BlockSlope(k)),
-        1 => Name::Part(PartName::BlockIntercept(k)),
-        _ => Name::Part(PartName::BlockWidth(k)),
+        0 => Some(PartName::BlockSlope(k)),
+        1 => Some(PartName::BlockIntercept(k)),
+        _ => Some(PartName::BlockWidth(k)),
     }
 }
 
 // Blockwise, behind the head.
-fn blockwise_name(blocks: u32, number: usize) -> Name
-    ensures { result ≡ name_in (nth (Area ∷ Behind ∷ (block_names 0 blocks ++ (Spare ∷ FooterLength ∷ []))) number) }
+fn blockwise_name(blocks: u32, number: usize) -> Option<PartName>
+    ensures { result ≡ nth (Area ∷ Behind ∷ (block_names 0 blocks ++ (Spare ∷ FooterLength ∷ []))) number }
 {
     if number < 2 {
         return bitpacked_name(number);
@@ -168,8 +161,8 @@ pub fn block_count(rows: u32) -> u32
 }
 
 // Behind the head, by the codec.
-fn name_behind(codec: Codec, rows: u32, number: usize) -> Name
-    ensures { result ≡ name_in (nth (names_behind codec rows) number) }
+fn name_behind(codec: Codec, rows: u32, number: usize) -> Option<PartName>
+    ensures { result ≡ nth (names_behind codec rows) number }
 {
     match codec {
         Codec::Bitpacked => bitpacked_name(number),
@@ -179,8 +172,8 @@ fn name_behind(codec: Codec, rows: u32, number: usize) -> Name
 }
 
 // The name of part `number`.
-pub(crate) fn name_at(codec: Codec, rows: u32, number: usize) -> Name
-    ensures { result ≡ name_in (nth (names codec rows) number) }
+pub(crate) fn name_at(codec: Codec, rows: u32, number: usize) -> Option<PartName>
+    ensures { result ≡ nth (names codec rows) number }
 {
     if number < 5 {
         return head_name(number);

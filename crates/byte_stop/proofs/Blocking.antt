@@ -1,9 +1,9 @@
 -- The loop over the blocks' fields: what is reached from a place on is what was to be reached.
---     behind-fits, behind_is                                  the place behind a block
---     Blocking, blocking_starts, -more, -stops, -ends         the loop of `blocks`
+--     place_behind                                            the place behind a block
+--     Blocking, blocking_more, -stops, -ends                  the loop of `blocks`
 -- Assumes nothing.
-use Prim.Native.Nat.{ℕ, suc, ◌+◌, ◌-◌, ◌*◌, ◌^◌, ◌≤◌, ◌<◌, min}
-use mathlib.Core.Path.{◌≡◌, refl, sym, ap, ap₂, ◌∙◌}
+use Prim.Native.Nat.{ℕ, suc, ◌+◌, ◌-◌, ◌*◌, ◌≤◌, ◌<◌, min}
+use mathlib.Core.Path.{◌≡◌, sym, ap, ◌∙◌}
 use mathlib.Core.List.{List}
 use native.Mathlib.Omega.{arith}
 use Rattle.format.specs.declared.Fields.{Fields}
@@ -14,7 +14,6 @@ use Rattle.format.specs.Word.{bytes_for}
 use Rattle.format.specs.Stops.{Reach, Reach.reached, Reach.stops, ◌>>=◌, reach_fields, reach_blocks}
 use Rattle.blockwise_linear.specs.declared.reader.Cursor.{Cursor}
 use Rattle.blockwise_linear.specs.Reader.{Small, up_to_length}
-use Rattle.blockwise_linear.proofs.Passes.{block_small}
 
 -- all blocks from a place on, the first being block k
 abbrev from : (s : List ℕ) (k : ℕ) → Cursor → Reach ℕ
@@ -28,29 +27,11 @@ fields_at s k c = reach_fields (BlockSlope k) (BlockIntercept k) (BlockWidth k) 
 abbrev pub place_behind : Cursor → (bits next : ℕ) → Cursor
 place_behind c bits next = record { at = next; start = c.start + bytes_for (bits * min c.left 512); left = c.left - 512 }
 
--- it is so by the rows and the bytes of the block, and the area's bytes can still be counted
-module _ (c : Cursor) (bits next : ℕ) {rows size : ℕ} (small : Small c) (narrow : bits ≤ 64) (few : rows ≡ min c.left 512) (long : size ≡ bytes_for (bits * rows)) where
-  size_is : size ≡ bytes_for (bits * min c.left 512)
-  size_is = long ∙ ap (λ (n : ℕ). bytes_for (bits * n)) few
-
-  pub behind-fits : c.start + size < 2 ^ 64
-  behind-fits = omega (arith, small.bytes, size_is, block_small bits (min c.left 512) narrow)
-
-  pub behind_is : Small (record { at = next; start = c.start + size; left = c.left - rows }) × (record { at = next; start = c.start + size; left = c.left - rows } ≡ place_behind c bits next)
-  behind_is =
-      let left : c.left - rows ≡ c.left - 512 = omega (arith, few) in (
-        record { bytes = omega (arith, small.bytes, few, size_is, block_small bits (min c.left 512) narrow) },
-        ap₂ (λ (a b : ℕ). record { at = next; start = c.start + a; left = b }) size_is left,
-      )
-
 -- k blocks are behind the place c
 pub record Blocking (s : List ℕ) (first c : Cursor) (k : ℕ) : Type 0 where
   pub few : k + c.left ≤ first.left
   pub small : Small c
   pub rest : from s 0 first ≡ from s k c
-
-pub blocking_starts : (s : List ℕ) (first : Cursor) → Small first → Blocking s first first 0
-blocking_starts s first small = record { few = omega arith; small = small; rest = refl }
 
 module _ {s : List ℕ} {first c : Cursor} {k : ℕ} (b : Blocking s first c k) where
   -- a block, and those behind it

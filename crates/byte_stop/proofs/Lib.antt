@@ -1,6 +1,5 @@
 -- Laws that the functions' proofs cite; the head of each file lists what it offers.
 pub mod Reaching
 pub mod Blocking
-pub mod Footing
 pub mod Opens
 pub mod Determined

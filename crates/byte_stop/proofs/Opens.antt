@@ -3,9 +3,9 @@
 --     reach-known                     else the head decides, then the body
 --     body-blockwise                  a codec that is neither 0 nor 1 is Blockwise
 -- Assumes nothing.
+use Rattle.std.specs.Prelude.{Some}
 use Prim.Native.Nat.{ℕ, zero, suc, ◌≤◌, ◌<◌}
 use mathlib.Core.Path.{◌≡◌, refl}
-use mathlib.Core.Option.{some}
 use mathlib.Core.List.{List, [], ◌∷◌}
 use native.Mathlib.Omega.{arith}
 use lib.ListN.{length, get_or}
@@ -14,12 +14,12 @@ use Rattle.format.specs.declared.Head.{Head}
 use Rattle.format.specs.declared.PartName.TheVariants.{Code}
 use Rattle.format.specs.Stops.{◌>>=◌, reach_head, reach_body, reach, stop_of}
 
-pub stop_none : (s : List ℕ) → length s ≡ 0 → some (record { number = 5; name = Code; first = 0 }) ≡ stop_of s
+pub stop_none : (s : List ℕ) → length s ≡ 0 → Some (record { number = 5; name = Code; first = 0 }) ≡ stop_of s
 unfolding reach
 stop_none [] e = refl
 stop_none (c ∷ s) e = absurd (omega arith)
 
-pub stop_unknown : (s : List ℕ) → 0 < length s → 2 < get_or s 0 0 → some (record { number = 5; name = Code; first = 0 }) ≡ stop_of s
+pub stop_unknown : (s : List ℕ) → 0 < length s → 2 < get_or s 0 0 → Some (record { number = 5; name = Code; first = 0 }) ≡ stop_of s
 unfolding reach
 stop_unknown [] there h = absurd (omega arith)
 stop_unknown (c ∷ s) there h = rw (lt-leb c 2 h)

@@ -1,36 +1,18 @@
 -- What a caller knows of a reading.
---     known               what it comes to, once the answer was found
---     area_in, area_out   an area that fits, and one that does not
 --     fields_narrow       a width that was read has at most 64 bits
 -- Assumes nothing.
-use Prim.Native.Nat.{ℕ, ◌+◌, ◌≤◌}
-use mathlib.Core.Path.{◌≡◌, refl, sym, ap, ◌∙◌}
-use mathlib.Core.Bool.{Bool, true, false}
-use mathlib.Core.Option.{none, some}
-use mathlib.Core.List.{List, []}
+use Prim.Native.Nat.{ℕ, ◌≤◌}
+use mathlib.Core.Path.{◌≡◌, refl, ap}
+use mathlib.Core.List.{List}
 use native.Mathlib.Omega.{arith}
-use lib.Dec.{leb}
 use Rattle.format.specs.declared.Fields.{Fields}
 use Rattle.format.specs.declared.PartName.{PartName}
-use Rattle.format.specs.declared.PartName.TheVariants.{Area}
-use Rattle.format.specs.Outcome.{Outcome, Outcome.value, Outcome.refusal, demand}
+use Rattle.format.specs.Outcome.{Outcome, Outcome.value, Outcome.refusal}
 use Rattle.format.specs.Varint.{read_varint}
 use Rattle.format.specs.Opening.{read_width}
-use Rattle.format.specs.Stops.{Reach, Reach.reached, Reach.stops, ◌>>=◌, during, reach_fields, reach_area, stop_in}
+use Rattle.format.specs.Stops.{Reach, Reach.reached, Reach.stops, ◌>>=◌, during, reach_fields}
 use Rattle.format.proofs.LineFields.{width_read}
 use Rattle.format.proofs.Widths.{legal_most}
-
-pub known : {R A : Type 0} (meaning : R → Reach A) {r q : R} {o : Reach A} → meaning r ≡ o → r ≡ q → o ≡ meaning q
-known meaning means e = sym means ∙ ap meaning e
-
--- ---- areas
-
-module _ (at size end : ℕ) {fits : Bool} (is : fits ≡ leb (at + size) end) where
-  pub area_in : fits ≡ true → none ≡ stop_in (reach_area at size end)
-  area_in e = ap (λ (t : Bool). stop_in (during Area at (demand t 10 []))) (sym e ∙ is)
-
-  pub area_out : fits ≡ false → some (record { number = 10; name = Area; first = at }) ≡ stop_in (reach_area at size end)
-  area_out e = ap (λ (t : Bool). stop_in (during Area at (demand t 10 []))) (sym e ∙ is)
 
 -- ---- widths
 

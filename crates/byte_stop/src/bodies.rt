@@ -5,28 +5,20 @@ ghost use Rattle.format.specs.Bodies.{block_count};
 ghost use Rattle.format.specs.Stops.{stop_in, reach_area, reach_fields, reach_blocks, reach_body};
 ghost use Rattle.format.specs.Word.{bytes_for};
 ghost use Rattle.blockwise_linear.specs.Reader.{Small, up_to_length};
-ghost use Rattle.byte_stop.specs.Meaning.{stop_meaning, fields_meaning, area_meaning};
+ghost use Rattle.byte_stop.specs.Meaning.{reached_by};
 
-use crate::Stopping;
-use crate::fields::{FieldsReach, Names};
+use crate::fields::Names;
 use blockwise_linear::reader::Cursor;
-use format::{Head, PartName, Stop};
-
-// The bytes of all blocks' area, or where reading the blocks' fields stops.
-#[derive(Clone, Copy)]
-pub enum AreaReach {
-    Area(usize),
-    Stop(Stop),
-}
+use format::{Fields, Head, PartName, Stop};
 
 // An area that begins at an offset and has to end before another.
-fn area(at: usize, size: usize, end: usize) -> Stopping
-    ensures { stop_meaning result ≡ stop_in (reach_area at size end) }
+fn area(at: usize, size: usize, end: usize) -> Option<Stop>
+    ensures { result ≡ stop_in (reach_area at size end) }
 {
     if word::ends_within(at, size, end) {
-        return Stopping::Nowhere;
+        return None;
     }
-    Stopping::At(Stop {
+    Some(Stop {
         number: 10,
         name: PartName::Area,
         first: at,
@@ -34,8 +26,9 @@ fn area(at: usize, size: usize, end: usize) -> Stopping
 }
 
 // Bitpacked: the area comes behind the head.
-fn bitpacked(bytes: &[u8], head: Head) -> Stopping
-    ensures { stop_meaning result ≡ stop_in (reach_body 0 bytes.now head) }
+#[tactic(auto, unfolding(format::specs::Stops::reach_body))]
+fn bitpacked(bytes: &[u8], head: Head) -> Option<Stop>
+    ensures { result ≡ stop_in (reach_body 0 bytes.now head) }
 {
     let width = bitpacker::compute_num_bits(head.count);
     let size = bitpacker::packed_len(head.rows as usize, width);
@@ -43,8 +36,9 @@ fn bitpacked(bytes: &[u8], head: Head) -> Stopping
 }
 
 // Linear: the area comes behind the line and its width.
-fn linear(bytes: &[u8], head: Head) -> Stopping
-    ensures { stop_meaning result ≡ stop_in (reach_body 1 bytes.now head) }
+#[tactic(auto, unfolding(format::specs::Stops::reach_body))]
+fn linear(bytes: &[u8], head: Head) -> Option<Stop>
+    ensures { result ≡ stop_in (reach_body 1 bytes.now head) }
 {
     let names = Names {
         slope: PartName::Slope,
@@ -52,11 +46,11 @@ fn linear(bytes: &[u8], head: Head) -> Stopping
         width: PartName::Width,
     };
     match crate::fields::fields(bytes, head.next, names) {
-        FieldsReach::Fields(f) => {
+        Ok(f) => {
             let size = bitpacker::packed_len(head.rows as usize, f.bits);
             area(f.next, size, bytes.len())
         }
-        FieldsReach::Stop(t) => Stopping::At(t),
+        Err(t) => Some(t),
     }
 }
 
@@ -82,8 +76,8 @@ fn behind(c: Cursor, bits: u8, next: usize) -> Cursor
 }
 
 // The fields of block k, read inside the footer's own bytes.
-fn block(bytes: &[u8], at: usize, k: u32) -> FieldsReach
-    ensures { fields_meaning result ≡ reach_fields (BlockSlope k) (BlockIntercept k) (BlockWidth k) (up_to_length bytes.now) at }
+fn block(bytes: &[u8], at: usize, k: u32) -> Result<Fields, Stop>
+    ensures { reached_by result ≡ reach_fields (BlockSlope k) (BlockIntercept k) (BlockWidth k) (up_to_length bytes.now) at }
 {
     let end = blockwise_linear::reader::footer_end(bytes);
     let names = Names {
@@ -95,38 +89,35 @@ fn block(bytes: &[u8], at: usize, k: u32) -> FieldsReach
 }
 
 // Internal: asks that the area's bytes can be counted. The fields of all blocks from a place on.
-fn blocks(bytes: &[u8], place: Cursor) -> AreaReach
+fn blocks(bytes: &[u8], place: Cursor) -> Result<usize, Stop>
     requires { Small place }
-    ensures { area_meaning result ≡ reach_blocks 0 (block_count place.left) (up_to_length bytes.now) place.at place.start place.left }
+    ensures { reached_by result ≡ reach_blocks 0 (block_count place.left) (up_to_length bytes.now) place.at place.start place.left }
 {
     let mut c = place;
     let mut k: u32 = 0;
     while 0 < c.left {
-        match block(bytes, c.at, k) {
-            FieldsReach::Fields(f) => {
-                c = behind(c, f.bits, f.next);
-                k += 1;
-            }
-            FieldsReach::Stop(t) => return AreaReach::Stop(t),
-        }
+        let f = block(bytes, c.at, k)?;
+        c = behind(c, f.bits, f.next);
+        k += 1;
     }
-    AreaReach::Area(c.start)
+    Ok(c.start)
 }
 
 // Blockwise: the footer's length, the blocks' fields in the footer, and the area between the head and the footer.
-fn blockwise(bytes: &[u8], head: Head) -> Stopping
-    ensures { stop_meaning result ≡ stop_in (reach_body 2 bytes.now head) }
+#[tactic(auto, unfolding(format::specs::Stops::reach_body))]
+fn blockwise(bytes: &[u8], head: Head) -> Option<Stop>
+    ensures { result ≡ stop_in (reach_body 2 bytes.now head) }
 {
     let end = blockwise_linear::reader::footer_end(bytes);
     if !word::ends_within(head.next, 4, bytes.len()) {
-        return Stopping::At(Stop {
+        return Some(Stop {
             number: 10,
             name: PartName::FooterLength,
             first: head.next,
         });
     }
     if !word::ends_within(head.next, blockwise_linear::reader::footer_len(bytes), end) {
-        return Stopping::At(Stop {
+        return Some(Stop {
             number: 10,
             name: PartName::FooterLength,
             first: end,
@@ -134,14 +125,14 @@ fn blockwise(bytes: &[u8], head: Head) -> Stopping
     }
     let footer = blockwise_linear::reader::first(bytes, head.rows);
     match blocks(bytes, footer) {
-        AreaReach::Area(size) => area(head.next, size, footer.at),
-        AreaReach::Stop(t) => Stopping::At(t),
+        Ok(size) => area(head.next, size, footer.at),
+        Err(t) => Some(t),
     }
 }
 
 // The body of a codec, by its number.
-pub(crate) fn body(code: u8, bytes: &[u8], head: Head) -> Stopping
-    ensures { stop_meaning result ≡ stop_in (reach_body code bytes.now head) }
+pub(crate) fn body(code: u8, bytes: &[u8], head: Head) -> Option<Stop>
+    ensures { result ≡ stop_in (reach_body code bytes.now head) }
 {
     match code {
         0 => bitpacked(bytes, head),

@@ -8,22 +8,14 @@ pub mod numbers;
 
 ghost use Rattle.byte_stop.specs.Meaning.{StopsAs};
 
-use fields::HeadReach;
 use format::{PartName, Stop};
 
-// Where a reading stops, if it does.
-#[derive(Clone, Copy)]
-pub enum Stopping {
-    At(Stop),
-    Nowhere,
-}
-
 // Where opening some bytes stops, given a table for all blocks.
-pub fn stop(bytes: &[u8]) -> Stopping
+pub fn stop(bytes: &[u8]) -> Option<Stop>
     ensures { StopsAs bytes.now result }
 {
     if bytes.len() == 0 {
-        return Stopping::At(Stop {
+        return Some(Stop {
             number: 5,
             name: PartName::Code,
             first: 0,
@@ -31,14 +23,14 @@ pub fn stop(bytes: &[u8]) -> Stopping
     }
     let code = bytes[0];
     if 2 < code {
-        return Stopping::At(Stop {
+        return Some(Stop {
             number: 5,
             name: PartName::Code,
             first: 0,
         });
     }
     match fields::head(bytes) {
-        HeadReach::Head(head) => bodies::body(code, bytes, head),
-        HeadReach::Stop(t) => Stopping::At(t),
+        Ok(head) => bodies::body(code, bytes, head),
+        Err(t) => Some(t),
     }
 }

@@ -4,20 +4,20 @@ ghost use Rattle.std.specs.Prelude.{◌≡◌};
 ghost use Rattle.format.specs.Stops.{stop_of};
 ghost use Rattle.byte_stop.specs.Numbers.{stop_numbers};
 
-use crate::Stopping;
 use byte_part::naming::{block_of, which_part};
 
 // Those of some bytes.
 pub fn stop_numbers(bytes: &[u8]) -> [u64; 4]
     ensures { result ≡ stop_numbers (stop_of bytes.now) }
 {
-    match crate::stop(bytes) {
-        Stopping::At(t) => {
-            let name = t.name;
-            let which = which_part(name);
-            let block = block_of(name) as u64;
-            [word::wide(t.number), which, block, t.first as u64]
-        }
-        Stopping::Nowhere => [0, 0, 0, 0],
-    }
+    let Some(stop) = crate::stop(bytes) else {
+        return [0; 4];
+    };
+    let block = block_of(stop.name) as u64;
+    [
+        word::wide(stop.number),
+        which_part(stop.name),
+        block,
+        stop.first as u64,
+    ]
 }

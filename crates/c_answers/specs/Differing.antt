@@ -1,7 +1,6 @@
 -- A difference as seven numbers: what a caller finds who asks where two columns differ.
 -- Assumes nothing.
-use Rattle.std.specs.Prelude.{ℕ, ◌-◌, ◌^◌, List, [], ◌∷◌, ◌++◌}
-use Rattle.std.proofs.Math.Option.{Option, none, some}
+use Rattle.std.specs.Prelude.{ℕ, ◌-◌, ◌^◌, List, [], ◌∷◌, ◌++◌, Option, Some, None}
 use Rattle.format.specs.Outcome.{Outcome}
 use Rattle.compare_walk.specs.Differences.{Pair}
 use Rattle.c_numbers.specs.Numbers.{told, or_zero}
@@ -12,5 +11,5 @@ answer_numbers o = told o ++ (or_zero o ∷ [])
 
 -- the row, and what each side answers there; 2^64 - 1 and zeros where nothing differs
 abbrev pub difference_numbers : Option Pair → List ℕ
-difference_numbers none = (2 ^ 64 - 1) ∷ 0 ∷ 0 ∷ 0 ∷ 0 ∷ 0 ∷ 0 ∷ []
-difference_numbers (some p) = p.row ∷ (answer_numbers p.left ++ answer_numbers p.right)
+difference_numbers None = (2 ^ 64 - 1) ∷ 0 ∷ 0 ∷ 0 ∷ 0 ∷ 0 ∷ 0 ∷ []
+difference_numbers (Some p) = p.row ∷ (answer_numbers p.left ++ answer_numbers p.right)

@@ -1,15 +1,14 @@
 -- A report as two numbers: what a caller of a replay finds.
 -- Assumes nothing.
-use Rattle.std.specs.Prelude.{ℕ, ◌-◌, ◌^◌, ◌≡◌, List, [], ◌∷◌}
-use Rattle.std.proofs.Math.Option.{Option, none, some}
+use Rattle.format.specs.declared.Report.{Report}
+use Rattle.std.specs.Prelude.{ℕ, ◌-◌, ◌^◌, ◌≡◌, List, [], ◌∷◌, Option, Some, None}
 use Rattle.format.specs.Outcome.{Outcome, Outcome.value, ◌>>=◌}
-use Rattle.format.specs.Replaying.{Report}
 use Rattle.c_numbers.specs.Numbers.{told, filled}
 
 -- the index of the record that differs, 2^64 - 1 where none does
 abbrev pub index_of : Option ℕ → ℕ
-index_of none = 2 ^ 64 - 1
-index_of (some k) = k
+index_of None = 2 ^ 64 - 1
+index_of (Some k) = k
 
 -- the two numbers of a report
 abbrev pub report_numbers : Report → List ℕ

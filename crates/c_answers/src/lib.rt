@@ -6,37 +6,41 @@ pub mod checks;
 pub mod differs;
 pub mod replays;
 
-ghost use Rattle.format.specs.Refusals.{stated_meaning, stored_meaning, opened_meaning, row_meaning};
-ghost use Rattle.c_numbers.specs.Numbers.{after, made_meaning, Answers, Describes, Narrows, States};
+ghost use Rattle.c_numbers.specs.Numbers.{after, Answers, Describes, Narrows, States};
+ghost use Rattle.format.specs.Refusals.{answered_by};
 
-use c_numbers::{ACCEPTED, Made, column_numbers, longer, told};
-use format::{Opened, RowRead, Stated, Stored};
+use c_numbers::{ACCEPTED, column_numbers, longer, told};
+use format::{Column, ColumnStats, Refusal};
 
 // What was stated: minimum, maximum, gcd, rows.
-pub fn stats_told(answer: Stated, stats: &mut [u64; 4], refusal: &mut [u64; 2])
-    ensures { States (stated_meaning answer) refusal.new stats.old stats.new }
+pub fn stats_told(
+    answer: Result<ColumnStats, Refusal>,
+    stats: &mut [u64; 4],
+    refusal: &mut [u64; 2],
+)
+    ensures { States (answered_by answer) refusal.new stats.old stats.new }
 {
     match answer {
-        Stated::Stats(s) => {
+        Ok(s) => {
             *stats = [s.minimum, s.maximum, s.gcd, s.rows as u64];
             *refusal = ACCEPTED;
         }
-        Stated::Refused(q) => {
+        Err(q) => {
             *refusal = told(q);
         }
     }
 }
 
 // The length of what was written, 0 on refusal.
-pub fn length_told(answer: Stored, refusal: &mut [u64; 2]) -> usize
-    ensures { Answers (stored_meaning answer) result refusal.new }
+pub fn length_told(answer: Result<usize, Refusal>, refusal: &mut [u64; 2]) -> usize
+    ensures { Answers (answered_by answer) result refusal.new }
 {
     match answer {
-        Stored::Entries(n) => {
+        Ok(n) => {
             *refusal = ACCEPTED;
             n
         }
-        Stored::Refused(q) => {
+        Err(q) => {
             *refusal = told(q);
             0
         }
@@ -44,31 +48,35 @@ pub fn length_told(answer: Stored, refusal: &mut [u64; 2]) -> usize
 }
 
 // A column that was made: its numbers.
-pub fn column_told(made: Made, column: &mut [u64; 12], refusal: &mut [u64; 2])
-    ensures { Narrows (made_meaning made) refusal.new column.old column.new }
+pub fn column_told(made: Result<Column, Refusal>, column: &mut [u64; 12], refusal: &mut [u64; 2])
+    ensures { Narrows (answered_by made) refusal.new column.old column.new }
 {
     match made {
-        Made::Column(opened) => {
+        Ok(opened) => {
             *column = column_numbers(opened);
             *refusal = ACCEPTED;
         }
-        Made::Refused(q) => {
+        Err(q) => {
             *refusal = told(q);
         }
     }
 }
 
 // What was opened: its numbers, and the offset of its longer spelling.
-pub fn open_told(answer: Opened, column: &mut [u64; 12], refusal: &mut [u64; 2]) -> u64
-    ensures { Describes (opened_meaning answer) result refusal.new column.old column.new }
+pub fn open_told(
+    answer: Result<(Column, Option<usize>), Refusal>,
+    column: &mut [u64; 12],
+    refusal: &mut [u64; 2],
+) -> u64
+    ensures { Describes (answered_by answer) result refusal.new column.old column.new }
 {
     match answer {
-        Opened::Column(opened, spelling) => {
+        Ok((opened, offset)) => {
             *column = column_numbers(opened);
             *refusal = ACCEPTED;
-            longer(spelling)
+            longer(offset)
         }
-        Opened::Refused(q) => {
+        Err(q) => {
             *refusal = told(q);
             u64::MAX
         }
@@ -76,19 +84,19 @@ pub fn open_told(answer: Opened, column: &mut [u64; 12], refusal: &mut [u64; 2])
 }
 
 // The value of a row of a column that was made, 0 on refusal.
-pub fn row_told(made: Made, answer: RowRead, refusal: &mut [u64; 2]) -> u64
-    ensures { Answers (after (made_meaning made) (row_meaning answer)) result refusal.new }
+pub fn row_told(
+    made: Result<Column, Refusal>,
+    answer: Result<u64, Refusal>,
+    refusal: &mut [u64; 2],
+) -> u64
+    ensures { Answers (after (answered_by made) (answered_by answer)) result refusal.new }
 {
-    if let Made::Refused(q) = made {
-        *refusal = told(q);
-        return 0;
-    }
-    match answer {
-        RowRead::Value(v) => {
+    match made.and(answer) {
+        Ok(v) => {
             *refusal = ACCEPTED;
             v
         }
-        RowRead::Refused(q) => {
+        Err(q) => {
             *refusal = told(q);
             0
         }
@@ -96,21 +104,12 @@ pub fn row_told(made: Made, answer: RowRead, refusal: &mut [u64; 2]) -> u64
 }
 
 // How many entries were stored, rows that were found or values, 0 on refusal.
-pub fn entries_told(made: Made, answer: Stored, refusal: &mut [u64; 2]) -> usize
-    ensures { Answers (after (made_meaning made) (stored_meaning answer)) result refusal.new }
+pub fn entries_told(
+    made: Result<Column, Refusal>,
+    answer: Result<usize, Refusal>,
+    refusal: &mut [u64; 2],
+) -> usize
+    ensures { Answers (after (answered_by made) (answered_by answer)) result refusal.new }
 {
-    if let Made::Refused(q) = made {
-        *refusal = told(q);
-        return 0;
-    }
-    match answer {
-        Stored::Entries(n) => {
-            *refusal = ACCEPTED;
-            n
-        }
-        Stored::Refused(q) => {
-            *refusal = told(q);
-            0
-        }
-    }
+    length_told(made.and(answer), refusal)
 }

@@ -1,18 +1,16 @@
 -- Columns and their twelve numbers.
 --     own_three                                     a codec's own numbers are three
---     tested_counts, small_counts                   the counts of rows
 --     no_counts, column_is, no_codec                twelve numbers as a column, once the counts and the codec are known
 --     bitpacked_is, linear_is, too_wide, blockwise_is, unknown      the codec of a number
 --     handed_back                                   a column's numbers are read back as that column
 -- Assumes nothing.
 use Prim.Native.Nat.{ℕ, zero, suc, ◌^◌, ◌≤◌, ◌<◌}
 use mathlib.Core.Path.{◌≡◌, refl}
-use mathlib.Core.Bool.{Bool, true, false, ◌&&◌, and-eq-true_iff}
+use mathlib.Core.Bool.{true, false}
 use mathlib.Core.List.{List, [], ◌∷◌, ◌++◌}
 use native.Mathlib.Omega.{arith}
-use lib.Dec.{ltb}
 use lib.ListN.{get_or}
-use borrow.Author.Tests.{lt-ltb, le-ltb, ltb-true}
+use borrow.Author.Tests.{lt-ltb, le-ltb}
 use Rattle.format.specs.declared.Codec.{Codec}
 use Rattle.format.specs.declared.Codec.TheVariants.{Bitpacked, Linear, Blockwise}
 use Rattle.format.specs.declared.Column.{Column}
@@ -28,17 +26,6 @@ own_three Blockwise more = refl
 -- the codec that twelve numbers name
 abbrev pub named : List ℕ → Outcome Codec
 named ns = codec_from (get_or ns 0 0) (get_or ns 7 0) (get_or ns 8 0) (get_or ns 9 0)
-
--- the counts, once they are tested
-pub tested_counts : (ns : List ℕ) {rows first seen : Bool} → ltb (get_or ns 4 0) (2 ^ 32) ≡ rows → ltb (get_or ns 10 0) (2 ^ 32) ≡ first → ltb (get_or ns 11 0) (2 ^ 32) ≡ seen
-    → (rows && first && seen) ≡ counts_fit ns
-tested_counts ns rows first seen = rw (← rows, ← first, ← seen)
-
-pub small_counts : (ns : List ℕ) → counts_fit ns ≡ true → (get_or ns 4 0 < 2 ^ 32) × (get_or ns 10 0 < 2 ^ 32) × (get_or ns 11 0 < 2 ^ 32)
-small_counts ns fit =
-    let two = (and-eq-true_iff (ltb (get_or ns 4 0) (2 ^ 32) && ltb (get_or ns 10 0) (2 ^ 32)) (ltb (get_or ns 11 0) (2 ^ 32))).0 fit in
-    let one = (and-eq-true_iff (ltb (get_or ns 4 0) (2 ^ 32)) (ltb (get_or ns 10 0) (2 ^ 32))).0 two.0 in
-    (ltb-true _ _ one.0, ltb-true _ _ one.1, ltb-true _ _ two.1)
 
 pub no_counts : (ns : List ℕ) → counts_fit ns ≡ false → refusal 13 [] ≡ column_from ns
 unfolding column_from

@@ -1,4 +1,3 @@
 pub mod Columns
-pub mod Answering
 pub mod Naming
 pub mod Telling

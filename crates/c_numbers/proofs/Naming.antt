@@ -1,18 +1,12 @@
--- Kinds by their numbers, and where a kind leads.
+-- Kinds by their numbers.
 --     plain_is, signed_is, date_is, flag_is, float_is, no_kind     the kind of a number
---     kind_through, kind_stopped                                   a kind leads on to what is done with it, or its refusal decides
 -- Assumes nothing.
 use Prim.Native.Nat.{ℕ, zero, suc}
-use mathlib.Core.Path.{◌≡◌, refl, sym, ap, ◌∙◌}
+use mathlib.Core.Path.{◌≡◌, refl}
 use mathlib.Core.List.{[]}
-use Rattle.format.specs.declared.Kind.{Kind}
 use Rattle.format.specs.declared.Kind.TheVariants.{U64, I64, Date, Bool as Flag, F64}
-use Rattle.format.specs.declared.Refusal.{Refusal}
-use Rattle.format.specs.Outcome.{Outcome, Outcome.value, Outcome.refusal, ◌>>=◌}
-use Rattle.format.specs.Refusals.{numbered}
-use Rattle.c_numbers.specs.declared.kinds.Known.{Known}
-use Rattle.c_numbers.specs.declared.kinds.Known.TheVariants.{Kind as KnownKind, Refused as NotKnown}
-use Rattle.c_numbers.specs.Kinds.{kind_from, known_meaning}
+use Rattle.format.specs.Outcome.{Outcome.value, Outcome.refusal}
+use Rattle.c_numbers.specs.Kinds.{kind_from}
 
 -- ---- the kind of a number
 
@@ -45,12 +39,3 @@ no_kind (suc (suc zero)) n0 n1 n2 n3 n4 = absurd (n2 refl)
 no_kind (suc (suc (suc zero))) n0 n1 n2 n3 n4 = absurd (n3 refl)
 no_kind (suc (suc (suc (suc zero)))) n0 n1 n2 n3 n4 = absurd (n4 refl)
 no_kind (suc (suc (suc (suc (suc n))))) n0 n1 n2 n3 n4 = refl
-
--- ---- a kind that is taken apart
-
-module _ {B : Type 0} (f : Kind → Outcome B) {o : Outcome Kind} {a : Known} (means : known_meaning a ≡ o) where
-  pub kind_through : {k : Kind} → a ≡ KnownKind k → (o >>= f) ≡ f k
-  kind_through e = ap (λ (x : Outcome Kind). x >>= f) (sym means ∙ ap known_meaning e)
-
-  pub kind_stopped : {q : Refusal} → a ≡ NotKnown q → (o >>= f) ≡ numbered q
-  kind_stopped e = ap (λ (x : Outcome Kind). x >>= f) (sym means ∙ ap known_meaning e)

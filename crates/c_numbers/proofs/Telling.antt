@@ -1,18 +1,16 @@
--- From an answer to the numbers that a caller finds.
---     tells, silent     numbers; a refusal
+-- From the rows of a byte to the numbers that a caller finds.
+--     rows_found     rows that were found, of a column that was made
 -- Assumes nothing.
-use Prim.Native.Nat.{ℕ}
-use mathlib.Core.Path.{◌≡◌, sym, ap, ◌∙◌}
-use mathlib.Core.List.{List, [], ◌∷◌}
+use Rattle.std.specs.Prelude.{ℕ, ◌≡◌, List, [], ◌∷◌, Option, Result, Ok, Err, refl}
+use Rattle.std.specs.Result.{result_and}
+use Rattle.format.specs.declared.Column.{Column}
 use Rattle.format.specs.declared.Refusal.{Refusal}
-use Rattle.format.specs.Outcome.{Outcome, Outcome.value}
-use Rattle.format.specs.Refusals.{numbered}
-use Rattle.c_numbers.specs.Numbers.{told, filled}
-use Rattle.c_numbers.specs.Explaining.{Tells}
-use Rattle.c_numbers.proofs.Answering.{two_of}
+use Rattle.format.specs.Refusals.{answered_by}
+use Rattle.c_numbers.specs.Explaining.{rows_numbers, rows_told, Tells}
+use Rattle.c_numbers.specs.Numbers.{after}
 
-pub tells : {o : Outcome (List ℕ)} {old : List ℕ} (ns : List ℕ) {two new : List ℕ} → o ≡ value ns → two ≡ 0 ∷ 0 ∷ [] → new ≡ ns → Tells o two old new
-tells {o} {old} ns is puts numbers = record { refusal_is = puts ∙ sym (ap told is); numbers = numbers ∙ sym (ap (λ (x : Outcome (List ℕ)). filled x old) is) }
-
-pub silent : {o : Outcome (List ℕ)} {old : List ℕ} (q : Refusal) {two : List ℕ} → o ≡ numbered q → two ≡ two_of q → Tells o two old old
-silent {o} {old} q is puts = record { refusal_is = puts ∙ sym (ap told is); numbers = sym (ap (λ (x : Outcome (List ℕ)). filled x old) is) }
+pub rows_found : (made : Result Column Refusal) (answer : Result (Option (ℕ × ℕ)) Refusal) (owners : Option (ℕ × ℕ)) {old new : List ℕ}
+    → Ok owners ≡ result_and made answer → new ≡ rows_numbers owners → Tells (after (answered_by made) (rows_told (answered_by answer))) (0 ∷ 0 ∷ []) old new
+rows_found (Ok c) (Ok found) owners e is = record { refusal_is = refl; numbers = cc }
+rows_found (Ok c) (Err r) owners e is = cc
+rows_found (Err r) answer owners e is = cc

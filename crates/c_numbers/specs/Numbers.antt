@@ -1,17 +1,13 @@
 -- Answers as plain numbers: what a C or a Rust caller hands over and finds.
 -- Assumes nothing.
-use Rattle.std.specs.Prelude.{ℕ, zero, suc, ◌-◌, ◌^◌, ◌≡◌, Bool, ◌&&◌, List, [], ◌∷◌, ◌++◌, ltb, get_or}
+use Rattle.format.specs.declared.Refusal.{Refusal}
+use Rattle.std.specs.Prelude.{ℕ, zero, suc, ◌-◌, ◌^◌, ◌≡◌, Bool, ◌&&◌, List, [], ◌∷◌, ◌++◌, ltb, get_or, Option, Some, None, Result, Ok, Err}
 use Rattle.format.specs.declared.Codec.{Codec}
 use Rattle.format.specs.declared.Codec.TheVariants.{Bitpacked, Linear, Blockwise}
 use Rattle.format.specs.declared.Column.{Column}
 use Rattle.format.specs.declared.ColumnStats.{ColumnStats}
-use Rattle.format.specs.declared.Spelling.{Spelling}
-use Rattle.format.specs.declared.Spelling.TheVariants.{Shortest, Longer}
 use Rattle.format.specs.Listing.{code_of}
 use Rattle.format.specs.Outcome.{Outcome, Outcome.value, Outcome.refusal, ◌>>=◌, ◌>>◌, demand}
-use Rattle.format.specs.Refusals.{numbered}
-use Rattle.c_numbers.specs.declared.Made.{Made}
-use Rattle.c_numbers.specs.declared.Made.TheVariants.{Column as MadeColumn, Refused as NotMade}
 
 -- ---- refusals
 
@@ -30,12 +26,12 @@ or_zero (value n) = n
 or_zero (refusal number also) = 0
 
 -- the offset of the first longer spelling, 2^64 - 1 where there is none
-abbrev pub offset_of : Spelling → ℕ
-offset_of Shortest = 2 ^ 64 - 1
-offset_of (Longer offset) = offset
+abbrev pub offset_of : Option ℕ → ℕ
+offset_of None = 2 ^ 64 - 1
+offset_of (Some offset) = offset
 
 -- the same of what was opened, 2^64 - 1 on refusal too
-abbrev pub longer_in : Outcome (Column × Spelling) → ℕ
+abbrev pub longer_in : Outcome (Column × (Option ℕ)) → ℕ
 longer_in (value a) = offset_of a.1
 longer_in (refusal number also) = 2 ^ 64 - 1
 
@@ -89,19 +85,14 @@ column_from ns = do
   codec ← codec_from (get_or ns 0 0) (get_or ns 7 0) (get_or ns 8 0) (get_or ns 9 0)
   value (column_with ns codec)
 
--- what twelve numbers are
-abbrev pub made_meaning : Made → Outcome Column
-made_meaning (MadeColumn c) = value c
-made_meaning (NotMade r) = numbered r
-
 -- a column of no rows
 abbrev pub no_column : Column
 no_column = column_with [] Bitpacked
 
 -- the column that twelve numbers are, else the one of no rows
-abbrev pub column_of : Made → Column
-column_of (MadeColumn c) = c
-column_of (NotMade r) = no_column
+abbrev pub column_of : Result Column Refusal → Column
+column_of (Ok c) = c
+column_of (Err r) = no_column
 
 -- ---- what a call leaves
 
@@ -116,10 +107,10 @@ pub record Answers (outcome : Outcome ℕ) (result : ℕ) (refusal : List ℕ) :
   pub refusal_is : refusal ≡ told outcome
 
 -- an opened column: the offset of its longer spelling, the numbers of its refusal and its own
-pub record Describes (outcome : Outcome (Column × Spelling)) (result : ℕ) (refusal column column' : List ℕ) : Type 0 where
+pub record Describes (outcome : Outcome (Column × (Option ℕ))) (result : ℕ) (refusal column column' : List ℕ) : Type 0 where
   pub result_is : result ≡ longer_in outcome
   pub refusal_is : refusal ≡ told outcome
-  pub column_is : column' ≡ filled (outcome >>= (λ (a : Column × Spelling). value (column_numbers a.0))) column
+  pub column_is : column' ≡ filled (outcome >>= (λ (a : Column × (Option ℕ)). value (column_numbers a.0))) column
 
 -- a narrowing: the numbers of its refusal and of its column
 pub record Narrows (outcome : Outcome Column) (refusal column column' : List ℕ) : Type 0 where

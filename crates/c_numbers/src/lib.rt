@@ -7,10 +7,10 @@ pub mod parts;
 
 ghost use Rattle.std.specs.Prelude.{◌≡◌, [], ◌∷◌, ◌^◌, ◌<◌, get_or};
 ghost use Rattle.format.specs.Listing.{code_of};
-ghost use Rattle.format.specs.Refusals.{paper};
-ghost use Rattle.c_numbers.specs.Numbers.{made_meaning, column_of, offset_of, own_numbers, column_numbers, column_with, counts_fit, column_from};
+ghost use Rattle.format.specs.Refusals.{paper, answered_by};
+ghost use Rattle.c_numbers.specs.Numbers.{column_of, offset_of, own_numbers, column_numbers, column_with, counts_fit, column_from};
 
-use format::{Codec, Column, Line, Refusal, Spelling, Window};
+use format::{Codec, Column, Line, Refusal, Window};
 
 // The two numbers where nothing is refused.
 pub const ACCEPTED: [u64; 2] = [0, 0];
@@ -23,13 +23,10 @@ pub fn told(refusal: Refusal) -> [u64; 2]
 }
 
 // The offset of the first longer spelling.
-pub fn longer(spelling: Spelling) -> u64
-    ensures { result ≡ offset_of spelling }
+pub fn longer(longer: Option<usize>) -> u64
+    ensures { result ≡ offset_of longer }
 {
-    match spelling {
-        Spelling::Shortest => u64::MAX,
-        Spelling::Longer { offset } => offset as u64,
-    }
+    longer.map_or(u64::MAX, |offset| offset as u64)
 }
 
 // A codec's number and its own three.
@@ -101,53 +98,43 @@ fn counts_fit(numbers: &[u64; 12]) -> bool
     true
 }
 
-// A column that a caller hands over as numbers.
-#[derive(Clone, Copy)]
-pub enum Made {
-    Column(Column),
-    Refused(Refusal),
-}
-
 // The column of twelve numbers, if they are one.
-pub fn column_from(numbers: &[u64; 12]) -> Made
-    ensures { made_meaning result ≡ column_from numbers.now }
+pub fn column_from(numbers: &[u64; 12]) -> Result<Column, Refusal>
+    ensures { answered_by result ≡ column_from numbers.now }
 {
     if !counts_fit(numbers) {
-        return Made::Refused(Refusal::Unfit);
+        return Err(Refusal::Unfit);
     }
     match numbers[0] {
-        0 => Made::Column(column_with(numbers, Codec::Bitpacked)),
+        0 => Ok(column_with(numbers, Codec::Bitpacked)),
         1 => {
             let bits = numbers[9];
             if 255 < bits {
-                return Made::Refused(Refusal::Unfit);
+                return Err(Refusal::Unfit);
             }
             let line = Line {
                 slope: numbers[7],
                 intercept: numbers[8],
             };
-            Made::Column(column_with(numbers, Codec::Linear(line, bits as u8)))
+            Ok(column_with(numbers, Codec::Linear(line, bits as u8)))
         }
-        2 => Made::Column(column_with(numbers, Codec::Blockwise)),
-        _ => Made::Refused(Refusal::Unfit),
+        2 => Ok(column_with(numbers, Codec::Blockwise)),
+        _ => Err(Refusal::Unfit),
     }
 }
 
 // That column; one of no rows where the numbers are none.
-pub fn column_of(made: Made) -> Column
+pub fn column_of(made: Result<Column, Refusal>) -> Column
     ensures { result ≡ column_of made }
 {
-    match made {
-        Made::Column(column) => column,
-        Made::Refused(_) => Column {
-            minimum: 0,
-            gcd: 0,
-            count: 0,
-            rows: 0,
-            start: 0,
-            size: 0,
-            window: Window { first: 0, rows: 0 },
-            codec: Codec::Bitpacked,
-        },
-    }
+    made.unwrap_or(Column {
+        minimum: 0,
+        gcd: 0,
+        count: 0,
+        rows: 0,
+        start: 0,
+        size: 0,
+        window: Window { first: 0, rows: 0 },
+        codec: Codec::Bitpacked,
+    })
 }

@@ -1,21 +1,19 @@
 -- The loop that fills a list with parts: what is put, joined with what comes from here on, is what is to be put.
 --     place_next, parts_more, parts_none              what a step of the walk says of the parts from a place on
---     put_is                                          what `put` leaves
---     Filling, filling_starts, -more, -done, -ends    the loop of `fill`
+--     Filling, filling_more, -done, -ends             the loop of `fill`
 -- Assumes nothing.
+use Rattle.std.specs.Prelude.{Some, None}
 use Prim.Native.Nat.{ℕ, zero, suc, ◌+◌, ◌-◌, ◌*◌, ◌/◌, ◌≤◌, ◌<◌}
 use mathlib.Core.Path.{◌≡◌, refl, sym, ap, ◌∙◌}
 use mathlib.Core.List.{List, [], ◌∷◌}
 use native.Mathlib.Omega.{arith}
-use lib.ListN.{length, take, drop, set}
+use lib.ListN.{length, take, drop}
 use lib.Seq.{sets, length-sets}
 use Rattle.format.specs.declared.Column.{Column}
 use Rattle.format.specs.declared.Part.{Part}
 use Rattle.format.specs.Parts.{part_end, parts_from}
 use Rattle.format.proofs.Stores.{sets-append}
 use Rattle.byte_part.specs.declared.Cursor.{Cursor}
-use Rattle.byte_part.specs.declared.Walked.TheVariants.{Part as At, Done}
-use Rattle.byte_part.specs.Names.{which_part, block_of}
 use Rattle.byte_part.specs.Walk.{walked}
 use Rattle.byte_part.proofs.Names.{nth_some}
 use Rattle.byte_part.proofs.Seeking.{all, Found, walked_part, walked_done}
@@ -38,27 +36,17 @@ module _ (s : List ℕ) (col : Column) where
       ∙ ap (λ (k : ℕ). p ∷ parts_from s col next.at (drop k (all s col))) (sym f.number)
 
   -- and its place is followed by the next one's
-  pub place_next : (c : Cursor) (p : Part) (next : Cursor) → walked s col c ≡ At p next → record { number = c.number + 1; at = part_end p } ≡ next
+  pub place_next : (c : Cursor) (p : Part) (next : Cursor) → walked s col c ≡ Some (p, next) → record { number = c.number + 1; at = part_end p } ≡ next
   place_next c p next e =
       let f = walked_part s col c p next e in
       rw (f.number, f.at)
 
-  pub parts_more : (c : Cursor) (p : Part) (next : Cursor) → walked s col c ≡ At p next → parts_at s col c ≡ p ∷ parts_at s col next
+  pub parts_more : (c : Cursor) (p : Part) (next : Cursor) → walked s col c ≡ Some (p, next) → parts_at s col c ≡ p ∷ parts_at s col next
   parts_more c p next e = found_first c p next (walked_part s col c p next e)
 
-  pub parts_none : (c : Cursor) → walked s col c ≡ Done → parts_at s col c ≡ []
+  pub parts_none : (c : Cursor) → walked s col c ≡ None → parts_at s col c ≡ []
   unfolding parts_from
   parts_none c e = ap (parts_from s col c.at) (walked_done s col c e)
-
--- five stores, one behind the other, put a part's numbers
-pub put_is : (l : List ℕ) (at : ℕ) (p : Part) {which block : ℕ} → which ≡ which_part p.name → block ≡ block_of p.name
-    → set (set (set (set (set l at which) (at + 1) block) (at + 2) p.first) (at + 3) p.bytes) (at + 4) p.value ≡ sets l at (part_numbers p)
-put_is l at p {which} {block} w b =
-    let one : at + 1 ≡ suc at = omega arith in
-    let two : at + 2 ≡ suc (suc at) = omega arith in
-    let three : at + 3 ≡ suc (suc (suc at)) = omega arith in
-    let four : at + 4 ≡ suc (suc (suc (suc at))) = omega arith in
-    rw (one, two, three, four, w, b)
 
 -- n parts are put into the list `old`, which is `new` now; those that are left to put begin at a place
 pub record Filling (s : List ℕ) (col : Column) (from : Cursor) (old new : List ℕ) (place : Cursor) (n : ℕ) : Type 0 where
@@ -68,24 +56,13 @@ pub record Filling (s : List ℕ) (col : Column) (from : Cursor) (old new : List
   pub goes : behind from (take (length old / 5) (parts_at s col from)) ≡ behind place (take (length old / 5 - n) (parts_at s col place))
   pub list : sets old 0 (parts_numbers (take (length old / 5) (parts_at s col from))) ≡ sets new (5 * n) (parts_numbers (take (length old / 5 - n) (parts_at s col place)))
 
-pub filling_starts : (s : List ℕ) (col : Column) (from : Cursor) (old : List ℕ) → Filling s col from old old from 0
-filling_starts s col from old =
-    let whole : length old / 5 ≡ length old / 5 - 0 = omega arith in
-    record {
-      few = omega arith;
-      kept = refl;
-      count = omega (arith, ap (λ (k : ℕ). length (take k (parts_at s col from))) whole);
-      goes = ap (λ (k : ℕ). behind from (take k (parts_at s col from))) whole;
-      list = ap (λ (k : ℕ). sets old 0 (parts_numbers (take k (parts_at s col from)))) whole;
-    }
-
 module _ {s : List ℕ} {col : Column} {from place : Cursor} {old new : List ℕ} {n : ℕ} (f : Filling s col from old new place n) where
   -- what is left to put
   abbrev left : List Part
   left = take (length old / 5 - n) (parts_at s col place)
 
   -- the next part was put
-  pub filling_more : (p : Part) (next : Cursor) {later : List ℕ} → n < length old / 5 → walked s col place ≡ At p next → later ≡ sets new (5 * n) (part_numbers p)
+  pub filling_more : (p : Part) (next : Cursor) {later : List ℕ} → n < length old / 5 → walked s col place ≡ Some (p, next) → later ≡ sets new (5 * n) (part_numbers p)
       → Filling s col from old later next (n + 1)
   unfolding behind parts_numbers
   filling_more p next {later} more e put =
@@ -116,7 +93,7 @@ module _ {s : List ℕ} {col : Column} {from place : Cursor} {old new : List ℕ
       }
 
   -- since there are no more parts,
-  pub filling_done : walked s col place ≡ Done → Fills s col from (record { parts = n; behind = place }) old new
+  pub filling_done : walked s col place ≡ None → Fills s col from (record { parts = n; behind = place }) old new
   filling_done e = nothing (take_none (length old / 5 - n) (parts_none s col place e))
 
   -- or the list is full

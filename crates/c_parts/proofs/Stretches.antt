@@ -3,6 +3,7 @@
 --     stretch_first       from the first place on they are all
 --     stretch_short       a list that is not filled is the last
 -- Assumes nothing.
+use Rattle.std.specs.Prelude.{Option, Some, None}
 use Prim.Native.Nat.{ℕ, zero, suc, ◌/◌, ◌<◌}
 use mathlib.Core.Path.{◌≡◌, refl, sym, ap, ◌∙◌}
 use mathlib.Core.List.{List, [], ◌∷◌, ◌++◌}
@@ -12,8 +13,6 @@ use Rattle.format.specs.declared.Column.{Column}
 use Rattle.format.specs.declared.Part.{Part}
 use Rattle.format.specs.Parts.{parts_of}
 use Rattle.byte_part.specs.declared.Cursor.{Cursor}
-use Rattle.byte_part.specs.declared.Walked.{Walked}
-use Rattle.byte_part.specs.declared.Walked.TheVariants.{Part as At, Done}
 use Rattle.byte_part.specs.Walk.{walked}
 use Rattle.c_parts.specs.Listed.{parts_at, behind, listed}
 use Rattle.c_parts.proofs.Filling.{place_next, parts_more, parts_none}
@@ -28,13 +27,13 @@ module _ (s : List ℕ) (col : Column) where
   taken zero c = refl
   taken (suc k) c = go (walked s col c) refl (λ (next : Cursor). taken k next)
     where
-      go : (w : Walked) → walked s col c ≡ w → ((next : Cursor) → joined next (take k (parts_at s col next)) ≡ parts_at s col next) → joined c (take (suc k) (parts_at s col c)) ≡ parts_at s col c
-      go (At p next) e later =
+      go : (w : Option (Part × Cursor)) → walked s col c ≡ w → ((next : Cursor) → joined next (take k (parts_at s col next)) ≡ parts_at s col next) → joined c (take (suc k) (parts_at s col c)) ≡ parts_at s col c
+      go (Some (p, next)) e later =
           let rest = take k (parts_at s col next) in
           ap (λ (ps : List Part). joined c (take (suc k) ps)) (parts_more s col c p next e)
           ∙ ap (λ (d : Cursor). p ∷ (rest ++ parts_at s col (behind d rest))) (place_next s col c p next e)
           ∙ ap (λ (ps : List Part). p ∷ ps) (later next) ∙ sym (parts_more s col c p next e)
-      go Done e later = ap (λ (ps : List Part). joined c (take (suc k) ps)) (parts_none s col c e)
+      go None e later = ap (λ (ps : List Part). joined c (take (suc k) ps)) (parts_none s col c e)
 
   pub stretch_then : (c : Cursor) (room : ℕ) → (listed s col c room).parts ++ parts_at s col (listed s col c room).place ≡ parts_at s col c
   unfolding joined

@@ -48,6 +48,10 @@ pub record Listed : Type 0 where
 abbrev pub listed : (s : List ℕ) → Column → Cursor → (room : ℕ) → Listed
 listed s col c room = let ps = take (room / 5) (parts_at s col c) in record { parts = ps; place = behind c ps }
 
+-- the column of twelve numbers, whose area has to lie in the bytes
+abbrev pub column_in : (ns s : List ℕ) → Outcome Column
+column_in ns s = column_from ns >>= (λ (col : Column). demand (leb (col.start + col.size) (length s)) 13 [] >> value col)
+
 -- those of the column of twelve numbers, whose area has to lie in the bytes
 abbrev pub listed_from : (ns s place : List ℕ) (room : ℕ) → Outcome Listed
 listed_from ns s place room =

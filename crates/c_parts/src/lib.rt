@@ -4,11 +4,12 @@
 ghost use Rattle.std.specs.Prelude.{◌+◌, ◌≤◌, ◌/◌, ◌≡◌, length};
 ghost use Rattle.std.proofs.lemmas.List.Edits.{sets};
 ghost use Rattle.c_numbers.specs.Explaining.{part_numbers};
-ghost use Rattle.c_parts.specs.Listed.{Fills, Walks, listed_from};
+ghost use Rattle.c_parts.specs.Listed.{Fills, Walks, column_in, listed_from};
+ghost use Rattle.format.specs.Refusals.{answered_by};
 
+use byte_part::Cursor;
 use byte_part::naming::{block_of, which_part};
-use byte_part::{Cursor, Walked};
-use c_numbers::{ACCEPTED, Made, column_from, told};
+use c_numbers::{ACCEPTED, column_from, told};
 use format::{Column, Part, Refusal};
 
 // How many parts were put into a list, and the place behind them.
@@ -37,26 +38,31 @@ fn fill(column: Column, bytes: &[u8], from: Cursor, list: &mut [u64]) -> Filled
 {
     let room = list.len() / 5;
     let mut place = from;
+    // Counted by hand: the count is an answer of its own, and the parts may end before the room does.
     let mut parts: usize = 0;
     while parts < room {
-        match byte_part::next_part(column, bytes, place) {
-            Walked::Done => {
-                return Filled {
-                    parts,
-                    behind: place,
-                };
-            }
-            Walked::Part(part, next) => {
-                put(list, 5 * parts, part);
-                place = next;
-                parts += 1;
-            }
-        }
+        let Some((part, next)) = byte_part::next_part(column, bytes, place) else {
+            break;
+        };
+        put(list, 5 * parts, part);
+        place = next;
+        parts += 1;
     }
     Filled {
         parts,
         behind: place,
     }
+}
+
+// The column of twelve numbers, whose area has to lie in the bytes.
+fn column_in(column: &[u64; 12], bytes: &[u8]) -> Result<Column, Refusal>
+    ensures { answered_by result ≡ column_in column.now bytes.now }
+{
+    let opened = column_from(column)?;
+    if !word::ends_within(opened.start, opened.size, bytes.len()) {
+        return Err(Refusal::Unfit);
+    }
+    Ok(opened)
 }
 
 // Puts the parts of a column of twelve numbers into a list, five numbers each, from the place of a cursor on, which is then the place
@@ -70,23 +76,20 @@ pub fn list_parts(
 ) -> usize
     ensures { Walks (listed_from column.now bytes.now cursor.old (length list.old)) result refusal.new cursor.old cursor.new list.old list.new }
 {
-    let opened = match column_from(column) {
-        Made::Column(opened) => opened,
-        Made::Refused(q) => {
-            *refusal = told(q);
-            return 0;
+    match column_in(column, bytes) {
+        Ok(opened) => {
+            let from = Cursor {
+                number: cursor[0] as usize,
+                at: cursor[1] as usize,
+            };
+            let done = fill(opened, bytes, from, list);
+            *cursor = [done.behind.number as u64, done.behind.at as u64];
+            *refusal = ACCEPTED;
+            done.parts
         }
-    };
-    if !word::ends_within(opened.start, opened.size, bytes.len()) {
-        *refusal = told(Refusal::Unfit);
-        return 0;
+        Err(q) => {
+            *refusal = told(q);
+            0
+        }
     }
-    let from = Cursor {
-        number: cursor[0] as usize,
-        at: cursor[1] as usize,
-    };
-    let done = fill(opened, bytes, from, list);
-    *cursor = [done.behind.number as u64, done.behind.at as u64];
-    *refusal = ACCEPTED;
-    done.parts
 }

@@ -1,6 +1,5 @@
 -- What the steps of the short way found is the row.
 --     place_below                             the column's row is below 2^32
---     raised_below                            a value that is not above the maximum has 64 bits
 --     reads                                   what was found is the row, whatever the codec
 --     packed_row, linear_row, blockwise_row   by the codec
 -- Assumes nothing.
@@ -8,7 +7,7 @@ use mathlib.Core.Path.{◌≡◌, refl, sym, ap}
 use mathlib.Core.Bool.{true}
 use mathlib.Core.List.{List}
 use Prim.Native.Nat.{ℕ, ◌+◌, ◌*◌, ◌/◌, ◌%◌, ◌^◌, ◌≤◌, ◌<◌}
-use native.Mathlib.Nat.{mul_comm, mul-le-mul_left}
+use native.Mathlib.Nat.{mul_comm}
 use native.Mathlib.Omega.{arith}
 use lib.Dec.{eqb}
 use lib.ListN.{length, get_or}
@@ -56,10 +55,6 @@ module _ (ns : List ℕ) (codec : Codec) (blocks : ℕ) (b : Block) (s : List �
 module _ {ns : List ℕ} {r q : ℕ} (at : Shown ns r q) where
   pub place_below : q < 2 ^ 32
   place_below = omega (arith, at.few, at.shown, at.window, at.place)
-
-module _ {ns : List ℕ} {most multiple : ℕ} (bound : Bounded ns most) (counted : multiple ≤ get_or ns 3 0) where
-  pub raised_below : get_or ns 1 0 + get_or ns 2 0 * multiple < 2 ^ 64
-  raised_below = omega (arith, bound.most, bound.below, mul-le-mul_left (get_or ns 2 0) counted, mul_comm (get_or ns 2 0) (get_or ns 3 0))
 
 -- ---- by the codec
 

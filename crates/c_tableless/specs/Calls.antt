@@ -1,7 +1,6 @@
 -- What the calls find that take a kind or a column as numbers.
 -- Assumes nothing.
-use Rattle.std.specs.Prelude.{ℕ, ◌-◌, ◌^◌, List, map}
-use Rattle.std.proofs.Math.Option.{Option, none, some}
+use Rattle.std.specs.Prelude.{ℕ, ◌-◌, ◌^◌, List, map, Option, Some, None}
 use Rattle.format.specs.declared.Column.{Column}
 use Rattle.format.specs.declared.ColumnStats.{ColumnStats}
 use Rattle.format.specs.declared.Kind.{Kind}
@@ -24,8 +23,8 @@ sizes_from n xs = kind_from n >>= (λ (kind : Kind). sizes (stored_as kind xs))
 
 -- its number, 2^64 - 1 where the codec does not apply
 abbrev pub size_number : Option ℕ → ℕ
-size_number none = 2 ^ 64 - 1
-size_number (some n) = n
+size_number None = 2 ^ 64 - 1
+size_number (Some n) = n
 
 -- the numbers of those that were found
 abbrev pub sizes_told : Outcome (List (Option ℕ)) → Outcome (List ℕ)

@@ -5,49 +5,37 @@ pub mod sizes;
 
 ghost use Rattle.std.specs.Prelude.{◌≡◌, ◌/◌, length, get_or};
 ghost use Rattle.format.specs.Calls.{StoredAs};
-ghost use Rattle.format.specs.Refusals.{stated_meaning};
 ghost use Rattle.format.specs.Word.{mod_add};
-ghost use Rattle.c_numbers.specs.Numbers.{made_meaning, Answers};
+ghost use Rattle.c_numbers.specs.Numbers.{Answers};
 ghost use Rattle.c_row.specs.Short.{row_of};
 ghost use Rattle.c_tableless.specs.Calls.{stated_from, written_from, narrowed_from};
+ghost use Rattle.format.specs.Refusals.{answered_by};
 
 use c_answers::row_told;
-use c_numbers::kinds::{Known, kind_from};
-use c_numbers::{ACCEPTED, Made, column_from, column_of};
-use format::{Block, Narrowed, Stated, Stored, WindowRow};
+use c_numbers::kinds::kind_from;
+use c_numbers::{ACCEPTED, column_from, column_of};
+use format::{Block, Column, ColumnStats, Refusal, WindowRow};
 
 // The statistics of the numbers that a list of values of a kind is stored as.
-pub fn stated(kind: u32, values: &[u64]) -> Stated
-    ensures { stated_meaning result ≡ stated_from kind values.now }
+pub fn stated(kind: u32, values: &[u64]) -> Result<ColumnStats, Refusal>
+    ensures { answered_by result ≡ stated_from kind values.now }
 {
-    match kind_from(kind) {
-        Known::Kind(known) => u64_based::column_stats_as(known, values),
-        Known::Refused(q) => Stated::Refused(q),
-    }
+    u64_based::column_stats_as(kind_from(kind)?, values)
 }
 
 // Writes such a list as a column by one of the listed codecs.
-pub fn written(kind: u32, values: &[u64], codecs: &[u8], out: &mut [u8]) -> Stored
+pub fn written(kind: u32, values: &[u64], codecs: &[u8], out: &mut [u8]) -> Result<usize, Refusal>
     ensures { StoredAs (written_from kind values.now codecs.now (length out.old)) result out.old out.new }
 {
-    match kind_from(kind) {
-        Known::Kind(known) => u64_based::serialize_as(known, values, codecs, out),
-        Known::Refused(q) => Stored::Refused(q),
-    }
+    u64_based::serialize_as(kind_from(kind)?, values, codecs, out)
 }
 
 // The column of twelve numbers with its window narrowed to `count` rows from its row `first` on.
-pub fn narrowed(numbers: &[u64; 12], first: u32, count: u32) -> Made
-    ensures { made_meaning result ≡ narrowed_from numbers.now first count }
+pub fn narrowed(numbers: &[u64; 12], first: u32, count: u32) -> Result<Column, Refusal>
+    ensures { answered_by result ≡ narrowed_from numbers.now first count }
 {
-    let column = match column_from(numbers) {
-        Made::Column(column) => column,
-        Made::Refused(q) => return Made::Refused(q),
-    };
-    match open_column::narrow(column, first, count) {
-        Narrowed::Column(narrowed) => Made::Column(narrowed),
-        Narrowed::Refused(q, _) => Made::Refused(q),
-    }
+    let column = column_from(numbers)?;
+    open_column::narrow(column, first, count).map_err(|(q, _)| q)
 }
 
 // The block that a row of the window of the column of twelve numbers is read by, the row counted modulo 2^64. Where the codec has no blocks it is 2^64 - 1, which no table has.

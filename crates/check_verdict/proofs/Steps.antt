@@ -6,11 +6,12 @@
 --     step_room                         what the turn asks for
 --     walked_over                       where it is over, the verdict is that of the rule
 -- Assumes nothing.
+use Rattle.format.specs.declared.Refusal.{Refusal}
+use Rattle.std.specs.Prelude.{Some, None, Result}
 use Prim.Native.Nat.{ℕ, zero, suc, ◌+◌, ◌-◌, ◌^◌, ◌≤◌, ◌<◌}
 use mathlib.Core.Path.{◌≡◌, refl, sym, ap, ◌∙◌, subst}
 use mathlib.Core.Bool.{Bool, true, false, ◌&&◌}
 use mathlib.Core.Logic.{⊎_elim}
-use mathlib.Core.Option.{none, some}
 use mathlib.Core.List.{List}
 use native.Mathlib.Nat.{add-zero}
 use native.Mathlib.Omega.{arith}
@@ -26,7 +27,6 @@ use Rattle.format.specs.Stats.{stats_of}
 use Rattle.format.specs.Typed.{stored_in, stored_as}
 use Rattle.format.proofs.Lists.{below_or, drop-map}
 use Rattle.format.proofs.Stores.{stores_front}
-use Rattle.read_chunk.specs.declared.taking.Stretch.{Stretch}
 use Rattle.read_row.specs.Chunks.{chunk_size}
 use Rattle.read_chunk.specs.Stretch.{leading, stretch, counted, StretchAs}
 use Rattle.read_chunk.proofs.Stretches.{stretch_most, stretch_value}
@@ -35,7 +35,7 @@ use Rattle.check_verdict.specs.Walks.{same_front, behind, left, Walking, verdict
 use Rattle.check_verdict.proofs.Fronts.{front_most, skip_front, stop_front, stop_refused}
 
 -- a list that a chunk was read into keeps its length
-pub stretch-kept : {read : ℕ → Outcome ℕ} {r n : ℕ} {a : Stretch} {old new : List ℕ} → StretchAs read r n a old new → length new ≡ length old
+pub stretch-kept : {read : ℕ → Outcome ℕ} {r n : ℕ} {a : Result ℕ (ℕ × Refusal)} {old new : List ℕ} → StretchAs read r n a old new → length new ≡ length old
 stretch-kept {read} {r} {n} {a} {old} f = ap length f.list ∙ length-sets old 0 (stretch read r n)
 
 -- two tests that are passed
@@ -97,7 +97,7 @@ module _ (read : ℕ → Outcome ℕ) where
     here = drop-drop same w.at vs
 
     -- a chunk that ends the walk before the rows end does so at an unequal row
-    unequal_there : (ltb 0 (length values) && leb (length values) same) ≡ false → w.at + same < length vs → first_unequal read (w.at + same) (drop same (drop w.at vs)) ≡ some (w.at + same)
+    unequal_there : (ltb 0 (length values) && leb (length values) same) ≡ false → w.at + same < length vs → first_unequal read (w.at + same) (drop same (drop w.at vs)) ≡ Some (w.at + same)
     unequal_there stops more =
         ⊎_elim
         (λ (some_read : 0 < length values).
@@ -112,11 +112,11 @@ module _ (read : ℕ → Outcome ℕ) where
         (below_or 0 (length values))
 
     -- no row is left
-    no_row : length vs ≤ w.at + same → first_unequal read (w.at + same) (drop same (drop w.at vs)) ≡ none
+    no_row : length vs ≤ w.at + same → first_unequal read (w.at + same) (drop same (drop w.at vs)) ≡ None
     unfolding first_unequal
     no_row h = rw (here, drop_of_length-le vs {i = w.at + same} h) refl
 
-    stepped : {a : Stretch} {old new : List ℕ} → length old ≡ 512 → StretchAs read w.at (chunk_size w.at (length vs - w.at)) a old new
+    stepped : {a : Result ℕ (ℕ × Refusal)} {old new : List ℕ} → length old ≡ 512 → StretchAs read w.at (chunk_size w.at (length vs - w.at)) a old new
         → Walking read vs (behind (counted a) (same_front (take (counted a) new) (drop w.at vs)) w)
     stepped {a} {old} {new} room chunk = rw (chunk.count, chunk.list, stores_front old values (omega (arith, small))) (record {
       inside = omega (arith, (front_most values (drop w.at vs)).1, length-drop w.at vs, f.inside);
@@ -129,7 +129,7 @@ module _ (read : ℕ → Outcome ℕ) where
           (below_or (w.at + same) (length vs));
     })
 
-    less : {a : Stretch} {old new : List ℕ} → w.going ≡ true → length old ≡ 512 → StretchAs read w.at (chunk_size w.at (length vs - w.at)) a old new
+    less : {a : Result ℕ (ℕ × Refusal)} {old new : List ℕ} → w.going ≡ true → length old ≡ 512 → StretchAs read w.at (chunk_size w.at (length vs - w.at)) a old new
         → left (length vs) (behind (counted a) (same_front (take (counted a) new) (drop w.at vs)) w) < left (length vs) w
     less {a} {old} {new} on room chunk = rw (chunk.count, chunk.list, stores_front old values (omega (arith, small)), on) (by (ltb 0 (length values) && leb (length values) same) refl)
       where
@@ -142,7 +142,7 @@ module _ (read : ℕ → Outcome ℕ) where
             omega (arith, (front_most values (drop w.at vs)).1, length-drop w.at vs)
 
     -- the turn's answer
-    module _ {a : Stretch} {old new : List ℕ} {next : Walk} (room : length old ≡ 512) (chunk : StretchAs read w.at (chunk_size w.at (length vs - w.at)) a old new)
+    module _ {a : Result ℕ (ℕ × Refusal)} {old new : List ℕ} {next : Walk} (room : length old ≡ 512) (chunk : StretchAs read w.at (chunk_size w.at (length vs - w.at)) a old new)
         (is : next ≡ behind (counted a) (same_front (take (counted a) new) (drop w.at vs)) w) where
       pub walking_step : Walking read vs next
       walking_step = subst (λ (x : Walk). Walking read vs x) (sym is) (stepped room chunk)
@@ -150,7 +150,7 @@ module _ (read : ℕ → Outcome ℕ) where
       pub step_less : w.going ≡ true → left (length vs) next < left (length vs) w
       step_less on = subst (λ (x : Walk). left (length vs) x < left (length vs) w) (sym is) (less on room chunk)
 
-    pub step_room : {a : Stretch} {old new : List ℕ} (long : ℕ) → long ≡ length vs → long < 2 ^ 32 → length old ≡ 512 → StretchAs read w.at (chunk_size w.at (length vs - w.at)) a old new
+    pub step_room : {a : Result ℕ (ℕ × Refusal)} {old new : List ℕ} (long : ℕ) → long ≡ length vs → long < 2 ^ 32 → length old ≡ 512 → StretchAs read w.at (chunk_size w.at (length vs - w.at)) a old new
         → (counted a ≤ length new) × (w.at ≤ long) × (w.at + counted a < 2 ^ 32)
     step_room {a} {old} {new} long is below room chunk =
         let count : counted a ≡ length values = chunk.count in
@@ -162,6 +162,6 @@ module _ (read : ℕ → Outcome ℕ) where
     walked_over col stops count =
         rw (eq-eqb col.rows (length vs) count, f.onward, f.over stops) (by (ltb w.at (length vs)))
       where
-        by : (t : Bool) → by_row (pick t (some w.at) none) (judged_head col (stats_of vs)) ≡ pick t (failed (unequal w.at)) (judged_head col (stats_of vs))
+        by : (t : Bool) → by_row (pick t (Some w.at) None) (judged_head col (stats_of vs)) ≡ pick t (failed (unequal w.at)) (judged_head col (stats_of vs))
         by true = refl
         by false = refl

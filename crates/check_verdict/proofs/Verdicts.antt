@@ -9,6 +9,8 @@
 --     refused_unopened, counts_differ, walked-verdict
 --                                  the verdict: opening's refusal, the counts, or what the walk over the rows came to
 -- Assumes nothing.
+use Rattle.format.specs.declared.Mismatch.TheVariants.{Unopened, Counts}
+use Rattle.std.specs.Prelude.{Option, Result, Ok, Err}
 use Prim.Native.Nat.{ℕ, ◌+◌, ◌-◌, ◌*◌, ◌/◌, ◌%◌, ◌^◌, ◌≤◌, ◌<◌, min}
 use mathlib.Core.Path.{◌≡◌, refl, sym, ap, ◌∙◌, subst}
 use mathlib.Core.Bool.{true, false}
@@ -17,18 +19,14 @@ use native.Mathlib.Nat.{mul_comm}
 use native.Mathlib.Omega.{arith}
 use borrow.Author.Tests.{ne_eqb}
 use lib.ListN.{length, take, drop}
-use Rattle.format.specs.declared.Checked.TheVariants.{Unopened, Counts}
 use Rattle.format.specs.declared.Column.{Column}
-use Rattle.format.specs.declared.Opened.{Opened}
-use Rattle.format.specs.declared.Opened.TheVariants.{Column as OpenedColumn, Refused}
 use Rattle.format.specs.declared.Refusal.{Refusal}
-use Rattle.format.specs.declared.Spelling.{Spelling}
 use Rattle.format.specs.Bodies.{block_count}
 use Rattle.format.specs.Checking.{Verdict, judged, checked}
 use Rattle.format.specs.Opening.{Loaded, opened, column_in}
 use Rattle.format.specs.Outcome.{Outcome, Outcome.value, Outcome.refusal}
 use Rattle.format.specs.Reading.{column_row, block_at, row_in, row_at}
-use Rattle.format.specs.Refusals.{paper, opened_meaning, checked_meaning}
+use Rattle.format.specs.Refusals.{paper, checked_meaning, answered_by}
 use Rattle.format.specs.Sheets.{opened_under}
 use Rattle.format.proofs.Laid.{Laid, opened_laid, opened-whole}
 use Rattle.format.proofs.Outcomes.{not_value, value_same}
@@ -36,7 +34,6 @@ use Rattle.blockwise_linear.specs.declared.passing.Pass.{Pass}
 use Rattle.blockwise_linear.specs.Passing.{passed, Passing}
 use Rattle.blockwise_linear.specs.Reader.{first_cursor, blocks_from, Good}
 use Rattle.blockwise_linear.proofs.Stops.{passing_starts}
-use Rattle.read_chunk.specs.declared.taking.Stretch.{Stretch}
 use Rattle.read_row.specs.Chunks.{chunk_size}
 use Rattle.read_chunk.specs.Stretch.{counted, StretchAs}
 use Rattle.read_chunk.proofs.Chunks.{in_block}
@@ -93,7 +90,7 @@ module _ {s : List ℕ} {c : Column} {o : Loaded} (e : Owns s c o) where
         rw (← here, has, ← e.column) (pass_block s e.room o e.found laid.head.few r (rw e.column inside))
 
     -- a chunk with the block that a pass stands at is a chunk by the opening's own blocks
-    own_stretch : (r n : ℕ) {p : Pass} {blocks : ℕ} {a : Stretch} {old new : List ℕ} → c.rows ≡ n → p ≡ passed s rows (min (r / 512 + 1) (block_count rows)) → blocks ≡ block_count rows
+    own_stretch : (r n : ℕ) {p : Pass} {blocks : ℕ} {a : Result ℕ (ℕ × Refusal)} {old new : List ℕ} → c.rows ≡ n → p ≡ passed s rows (min (r / 512 + 1) (block_count rows)) → blocks ≡ block_count rows
         → StretchAs (row_in c blocks p.block s) r (chunk_size (column_row c r) (c.window.rows - r)) a old new → StretchAs (row_at c o.table s) r (chunk_size r (n - r)) a old new
     own_stretch r n {p} {blocks} long at many chunk =
         let size : chunk_size (column_row c r) (c.window.rows - r) ≡ chunk_size r (n - r) = omega (arith, first_row, all_rows_lem, long) in
@@ -111,22 +108,22 @@ pub record Stands (sheet : ℕ) (s : List ℕ) (room : ℕ) (c : Column) (o : Lo
   pub under : opened_under sheet s room ≡ value o
   pub owns : Owns s c o
 
-pub stands : (sheet : ℕ) (s : List ℕ) (room : ℕ) {c : Column} {p : Spelling} {a : Opened} → a ≡ OpenedColumn c p → opened_meaning a ≡ column_in (opened_under sheet s room)
+pub stands : (sheet : ℕ) (s : List ℕ) (room : ℕ) {c : Column} {p : Option ℕ} {a : Result (Column × Option ℕ) Refusal} → a ≡ Ok (c, p) → answered_by a ≡ column_in (opened_under sheet s room)
     → (o : Loaded) × Stands sheet s room c o
-stands sheet s room {c} {p} {a} told answer = go (opened_under sheet s room) refl (sym (ap opened_meaning told) ∙ answer)
+stands sheet s room {c} {p} {a} told answer = go (opened_under sheet s room) refl (sym (ap answered_by told) ∙ answer)
   where
-    go : (x : Outcome Loaded) → opened_under sheet s room ≡ x → opened_meaning (OpenedColumn c p) ≡ column_in x → (o : Loaded) × Stands sheet s room c o
+    go : (x : Outcome Loaded) → opened_under sheet s room ≡ x → answered_by (Ok (c, p)) ≡ column_in x → (o : Loaded) × Stands sheet s room c o
     go (value o) is r = (
       o,
       record {
         under = is;
-        owns = record { room = room; found = accepted sheet s (opened s room) o is; column = sym (ap (λ (x : Column × Spelling). x.0) (value_same r)) };
+        owns = record { room = room; found = accepted sheet s (opened s room) o is; column = sym (ap (λ (x : Column × (Option ℕ)). x.0) (value_same r)) };
       },
     )
     go (refusal number also) is r = absurd (not_value (sym r))
 
 -- the column that some opening answered
-pub owned : {s : List ℕ} {c : Column} {p : Spelling} {a : Opened} → a ≡ OpenedColumn c p → FromOpening s a → (o : Loaded) × Owns s c o
+pub owned : {s : List ℕ} {c : Column} {p : Option ℕ} {a : Result (Column × Option ℕ) Refusal} → a ≡ Ok (c, p) → FromOpening s a → (o : Loaded) × Owns s c o
 owned told f = let o = stands f.sheet _ f.room told f.is in
     (o.0, o.1.owns)
 
@@ -146,7 +143,7 @@ module _ {s : List ℕ} {c : Column} {o : Loaded} (own : Owns s c o) {rows : ℕ
     {decoded : List ℕ} {p : Pass} {w : Walk} (f : Turning s c rows vs decoded p w)
     {q : Pass} (at : q ≡ passed s rows (min (w.at / 512 + 1) (block_count rows)))
     {blocks : ℕ} (many : blocks ≡ block_count rows)
-    {a : Stretch} {new : List ℕ} (chunk : StretchAs (row_in c blocks q.block s) w.at (chunk_size (column_row c w.at) (c.window.rows - w.at)) a decoded new) where
+    {a : Result ℕ (ℕ × Refusal)} {new : List ℕ} (chunk : StretchAs (row_in c blocks q.block s) w.at (chunk_size (column_row c w.at) (c.window.rows - w.at)) a decoded new) where
   by_own : (o : Loaded) → Owns s c o → StretchAs (row_at c o.table s) w.at (chunk_size w.at (length vs - w.at)) a decoded new
   by_own o e = own_stretch e has w.at (length vs) count at many chunk
 
@@ -167,22 +164,22 @@ module _ {s : List ℕ} {c : Column} {o : Loaded} (own : Owns s c o) {rows : ℕ
 
 -- ---- the verdicts
 
-module _ (sheet : ℕ) (s : List ℕ) (room : ℕ) (vs : List ℕ) {a : Opened} (answer : opened_meaning a ≡ column_in (opened_under sheet s room)) where
-  pub refused_unopened : {x : Refusal} → a ≡ Refused x → checked_meaning (Unopened x) ≡ checked (opened_under sheet s room) s vs
-  refused_unopened {x} told = go (opened_under sheet s room) (sym (ap opened_meaning told) ∙ answer)
+module _ (sheet : ℕ) (s : List ℕ) (room : ℕ) (vs : List ℕ) {a : Result (Column × Option ℕ) Refusal} (answer : answered_by a ≡ column_in (opened_under sheet s room)) where
+  pub refused_unopened : {x : Refusal} → a ≡ Err x → checked_meaning (Err (Unopened x)) ≡ checked (opened_under sheet s room) s vs
+  refused_unopened {x} told = go (opened_under sheet s room) (sym (ap answered_by told) ∙ answer)
     where
-      go : (o : Outcome Loaded) → opened_meaning (Refused x) ≡ column_in o → checked_meaning (Unopened x) ≡ checked o s vs
+      go : (o : Outcome Loaded) → answered_by (Err x) ≡ column_in o → checked_meaning (Err (Unopened x)) ≡ checked o s vs
       go (value l) r = absurd (not_value r)
       go (refusal number also) r =
           let same : ◌≡◌ {A = Outcome Loaded} (refusal (paper x).0 (paper x).1) (refusal number also) = cc r in
           cc
 
-  module _ {c : Column} {p : Spelling} (told : a ≡ OpenedColumn c p) where
+  module _ {c : Column} {p : Option ℕ} (told : a ≡ Ok (c, p)) where
     -- the verdict on the rows, by the opening's own blocks
     on_rows : (o : Loaded) → Stands sheet s room c o → checked (opened_under sheet s room) s vs ≡ judged (row_at c o.table s) c vs
     on_rows o e = ap (λ (x : Outcome Loaded). checked x s vs) e.under ∙ ap (λ (k : Column). judged (row_at k o.table s) k vs) e.owns.column
 
-    pub counts_differ : (n : ℕ) → n ≡ length vs → (c.rows ≡ n → ⊥) → checked_meaning (Counts c.rows n) ≡ checked (opened_under sheet s room) s vs
+    pub counts_differ : (n : ℕ) → n ≡ length vs → (c.rows ≡ n → ⊥) → checked_meaning (Err (Counts c.rows n)) ≡ checked (opened_under sheet s room) s vs
     unfolding judged
     counts_differ n long other =
         let o = stands sheet s room told answer in

@@ -1,7 +1,6 @@
 -- A walk over the rows of a column beside a list of values, chunk by chunk, up to the first row that is not its value. Over any reading.
 -- Assumes nothing.
-use Rattle.std.specs.Prelude.{ℕ, suc, ◌+◌, ◌-◌, ◌≤◌, ◌≡◌, false, ◌&&◌, List, [], ◌∷◌, eqb, ltb, leb, length, drop}
-use Rattle.std.proofs.Math.Option.{none, some}
+use Rattle.std.specs.Prelude.{ℕ, suc, ◌+◌, ◌-◌, ◌≤◌, ◌≡◌, false, ◌&&◌, List, [], ◌∷◌, eqb, ltb, leb, length, drop, Some, None}
 use Rattle.format.specs.declared.Column.{Column}
 use Rattle.format.specs.Checking.{Reason.unequal, Verdict, Verdict.failed, first_unequal, judged_head}
 use Rattle.format.specs.Outcome.{Outcome, pick}
@@ -26,7 +25,7 @@ left rows w = pick w.going (suc (rows - w.at)) 0
 pub record Walking (read : ℕ → Outcome ℕ) (vs : List ℕ) (w : Walk) : Type 0 where
   pub inside : w.at ≤ length vs
   pub onward : first_unequal read 0 vs ≡ first_unequal read w.at (drop w.at vs)
-  pub over : w.going ≡ false → first_unequal read w.at (drop w.at vs) ≡ pick (ltb w.at (length vs)) (some w.at) none
+  pub over : w.going ≡ false → first_unequal read w.at (drop w.at vs) ≡ pick (ltb w.at (length vs)) (Some w.at) None
 
 -- the verdict where a walk ended: its row, or, where none is left, that on the head
 abbrev pub verdict : Column → (vs : List ℕ) (at : ℕ) → Verdict

@@ -4,8 +4,8 @@ ghost use Rattle.format.specs.Typed.{stored_as};
 ghost use Rattle.read_chunk.specs.Stretch.{counted};
 ghost use Rattle.check_verdict.specs.Walks.{same_front, behind};
 
-use format::Kind;
-use read_chunk::taking::{Stretch, values_of};
+use format::{Kind, Refusal};
+use read_chunk::taking::values_of;
 
 // A walk over the rows: all before `at` are the list's values. It goes on while no other was met, up to a chunk that has no values.
 #[derive(Clone, Copy)]
@@ -18,21 +18,21 @@ pub struct Walk {
 fn same_front(kind: Kind, numbers: &[u64], values: &[u64]) -> usize
     ensures { result ≡ same_front numbers.now (stored_as kind values.now) }
 {
-    let mut i = 0;
-    while i < numbers.len() {
-        if values.len() <= i {
-            break;
-        }
-        if numbers[i] != monotonic_mapping::stored_of(kind, values[i]) {
-            break;
-        }
-        i += 1;
-    }
-    i
+    numbers
+        .iter()
+        .zip(values)
+        .take_while(|(number, value)| **number == monotonic_mapping::stored_of(kind, **value))
+        .count()
 }
 
 // Internal: asks for a chunk's values in the front of a list, and for a row within the other. Goes on behind that chunk.
-pub(crate) fn step(kind: Kind, values: &[u64], decoded: &[u64], stretch: Stretch, w: Walk) -> Walk
+pub(crate) fn step(
+    kind: Kind,
+    values: &[u64],
+    decoded: &[u64],
+    stretch: Result<usize, (usize, Refusal)>,
+    w: Walk,
+) -> Walk
     requires { (counted stretch ≤ length decoded.now) × (w.at ≤ length values.now) × (w.at + counted stretch < 2 ^ 32) }
     ensures { result ≡ behind (counted stretch) (same_front (take (counted stretch) decoded.now) (drop w.at (stored_as kind values.now))) w }
 {

@@ -1,8 +1,8 @@
 -- The first difference, computed for small readings.
 -- Assumes nothing.
+use Rattle.std.specs.Prelude.{Option, Some, None}
 use Prim.Native.Nat.{ℕ}
 use mathlib.Core.Path.{◌≡◌, refl}
-use mathlib.Core.Option.{Option, none, some}
 use mathlib.Core.List.{List, [], ◌∷◌}
 use lib.ListN.{get_or}
 use Rattle.format.specs.Lookup.{rows_passing}
@@ -14,7 +14,7 @@ abbrev of : List (Outcome ℕ) → ℕ → Outcome ℕ
 of answers r = get_or answers r (refusal 12 [])
 
 abbrev pair : (row : ℕ) (left right : Outcome ℕ) → Option Pair
-pair row left right = some (record { row = row; left = left; right = right })
+pair row left right = Some (record { row = row; left = left; right = right })
 
 computed : (
     -- equal answers; a row that differs, looked for from before it, from it and from behind it
@@ -32,12 +32,12 @@ computed : (
     ∷ first_difference (of (value 7 ∷ refusal 13 [] ∷ [])) (of (value 7 ∷ [])) 2 0
     ∷ [])
     ≡
-    none
+    None
     ∷ pair 1 (value 8) (value 1)
     ∷ pair 1 (value 8) (value 1)
     ∷ pair 2 (value 9) (value 2)
-    ∷ none
-    ∷ none
+    ∷ None
+    ∷ None
     ∷ pair 0 (refusal 14 (0 ∷ [])) (refusal 13 [])
     ∷ pair 0 (refusal 14 (0 ∷ [])) (value 14)
     ∷ pair 1 (refusal 12 []) (value 8)

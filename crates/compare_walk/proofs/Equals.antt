@@ -1,8 +1,7 @@
 -- Rows with equal answers, over any two readings.
---     refused_equal                                               two refused answers
---     Passing, pass_starts, pass_more, pass_stops, pass_ends      a loop over rows
+--     Passing, pass_more, pass_stops, pass_ends                   a loop over rows
 --     equal_by                                                    other readings that agree
---     values_equal, values_same, values_differ                    chunks that were decoded as a whole, and two of their values
+--     values_equal                                                chunks that were decoded as a whole
 --     shared_none, shared_left_lesser, shared_right_lesser        the size of a chunk of both columns
 --     shared_left, shared_right, shared_most, looked_shared       such a chunk
 --     chunk_for                                                   a list of a chunk's size
@@ -14,17 +13,11 @@ use mathlib.Core.Logic.{⊎_elim}
 use mathlib.Core.List.{List}
 use native.Mathlib.Nat.{zero-add, eq-or-lt_of_le}
 use native.Mathlib.Omega.{arith}
-use lib.Dec.{eqb}
-use borrow.Author.Tests.{eq-eqb, ne_eqb}
 use lib.ListN.{length, get_or}
 use Rattle.format.specs.declared.Column.{Column}
-use Rattle.format.specs.declared.Refusal.{Refusal}
-use Rattle.format.specs.declared.RowRead.{RowRead}
-use Rattle.format.specs.declared.RowRead.TheVariants.{Refused}
 use Rattle.format.specs.Comparing.{equal_answers}
 use Rattle.format.specs.Outcome.{Outcome, Outcome.value}
 use Rattle.format.specs.Reading.{column_row}
-use Rattle.format.specs.Refusals.{paper, row_meaning}
 use Rattle.format.specs.Runs.{read_run}
 use Rattle.format.proofs.Runs.{run_long}
 use Rattle.read_row.specs.Chunks.{Chunk, chunk_size}
@@ -34,10 +27,6 @@ use Rattle.read_chunk.proofs.Stretches.{run_stretch, stretch_value}
 use Rattle.compare_walk.specs.declared.equal.Side.{Side}
 use Rattle.compare_walk.specs.Equal.{side_row, list_row, EqualFor, shared_size, LookedAt}
 use Rattle.compare_walk.specs.Walking.{Same}
-
-pub refused_equal : {left right : RowRead} {x y : Refusal} {n m : ℕ} → left ≡ Refused x → right ≡ Refused y → n ≡ (paper x).0 → m ≡ (paper y).0
-    → eqb n m ≡ equal_answers (row_meaning left) (row_meaning right)
-refused_equal is was one other = rw (is, was, one, other)
 
 -- a row of a run that was decoded
 run_row : (read : ℕ → Outcome ℕ) (r n : ℕ) (vs : List ℕ) → read_run read r n ≡ value vs → (i : ℕ) → i < n → read (r + i) ≡ value (get_or vs i 0)
@@ -56,9 +45,6 @@ module _ (left right : ℕ → Outcome ℕ) (r size : ℕ) where
     pub most : i ≤ size
     pub before : (j : ℕ) → j < i → equal_at j ≡ true
 
-  pub pass_starts : Passing 0
-  pass_starts = record { most = omega arith; before = λ j h. absurd (omega arith) }
-
   module _ {i : ℕ} (f : Passing i) where
     pub pass_more : i < size → equal_at i ≡ true → Passing (i + 1)
     pass_more h e = record { most = omega arith; before = λ j k. ⊎_elim (λ same. ap equal_at same ∙ e) (λ less. f.before j less) (eq-or-lt_of_le (last j k)) }
@@ -69,8 +55,8 @@ module _ (left right : ℕ → Outcome ℕ) (r size : ℕ) where
     pub pass_stops : equal_at i ≡ false → EqualFor left right r size i
     pass_stops e = record { most = f.most; before = f.before; next = λ h. e }
 
-    pub pass_ends : size ≤ i → EqualFor left right r size i
-    pass_ends h = record { most = f.most; before = f.before; next = λ k. absurd (omega arith) }
+    pub pass_ends : size ≤ i → EqualFor left right r size size
+    pass_ends h = record { most = omega arith; before = λ j k. f.before j (omega arith); next = λ k. absurd (omega arith) }
 
   -- ---- other readings
 
@@ -91,15 +77,6 @@ module _ (left right : ℕ → Outcome ℕ) (r size : ℕ) where
 
       same : (i : ℕ) → i < size → equal_at i ≡ equal_answers (list_row ls (0 + i)) (list_row rs (0 + i))
       same i h = rw (run_row left r size ls l i h, run_row right r other rs e i (omega (arith, as_many)), zero-add i)
-
--- ---- two values of lists
-
-module _ (ls rs : List ℕ) (i : ℕ) where
-  pub values_same : get_or ls i 0 ≡ get_or rs i 0 → equal_answers (list_row ls (0 + i)) (list_row rs (0 + i)) ≡ true
-  values_same e = rw (zero-add i) (eq-eqb (get_or ls i 0) (get_or rs i 0) e)
-
-  pub values_differ : (get_or ls i 0 ≡ get_or rs i 0 → ⊥) → equal_answers (list_row ls (0 + i)) (list_row rs (0 + i)) ≡ false
-  values_differ e = rw (zero-add i) (ne_eqb (get_or ls i 0) (get_or rs i 0) e)
 
 -- ---- a chunk of both columns
 

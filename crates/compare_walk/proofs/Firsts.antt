@@ -4,11 +4,12 @@
 --     no_line, first_line_lem           from row 0 on it stands for the comparison's text: `lines 0` exactly if there is none, else its first line
 --     difference_injective          an answer is told by what it means
 -- Assumes nothing.
+use Rattle.std.specs.Prelude.{Option, Some, None, Result}
+use Rattle.format.specs.declared.Refusal.{Refusal}
 use Prim.Native.Nat.{ℕ, zero, suc, ◌+◌, ◌-◌, ◌/◌, ◌%◌, ◌≤◌, ◌<◌}
 use mathlib.Core.Path.{◌≡◌, refl, sym, ap, ◌∙◌}
 use mathlib.Core.Bool.{Bool, true, false}
 use mathlib.Core.Logic.{◌↔◌, ⊎_elim}
-use mathlib.Core.Option.{none, some}
 use mathlib.Core.List.{List, [], ◌∷◌, ◌++◌, append_assoc}
 use native.Mathlib.Nat.{eq-or-lt_of_le}
 use native.Mathlib.Omega.{arith}
@@ -19,14 +20,13 @@ use Rattle.format.specs.Comparing.{equal_answers, differing, pair_line, pair_lin
 use Rattle.format.specs.Listing.{ascii, decimal_in, decimal, named, named_line}
 use Rattle.format.specs.Lookup.{rows_passing}
 use Rattle.format.specs.Outcome.{Outcome, pick}
-use Rattle.format.proofs.Answers.{row_injective}
+use Rattle.format.proofs.Answers.{answered_injective}
 use Rattle.compare_walk.specs.declared.Difference.{Difference}
-use Rattle.compare_walk.specs.declared.Difference.TheVariants.{Equal, At}
 use Rattle.compare_walk.specs.Differences.{Pair, first_of, first_difference, difference_meaning}
 use Rattle.compare_walk.proofs.Seeks.{one_equal, one_differs}
 
 -- one pair of answers
-some_same : {p q : Pair} → some p ≡ some q → p ≡ q
+some_same : {p q : Pair} → Some p ≡ Some q → p ≡ q
 some_same e = cc
 
 -- a number's digits begin with one
@@ -65,25 +65,25 @@ module _ (left right : ℕ → Outcome ℕ) where
   equal_too : {r : ℕ} (x : ℕ) → equal_at r ≡ true → r ≤ x → (r < x → equal_at x ≡ true) → equal_at x ≡ true
   equal_too x e low later = ⊎_elim (λ same. ap equal_at (sym same) ∙ e) later (eq-or-lt_of_le low)
 
-  none_in : (n r : ℕ) → first_of left right (differing left right r n) ≡ none → (x : ℕ) → r ≤ x → x < r + n → equal_at x ≡ true
+  none_in : (n r : ℕ) → first_of left right (differing left right r n) ≡ None → (x : ℕ) → r ≤ x → x < r + n → equal_at x ≡ true
   none_in zero r e x low high = absurd (omega arith)
   none_in (suc n) r e x low high = go (equal_at r) refl (none_in n (suc r))
     where
-      go : (t : Bool) → equal_at r ≡ t → (first_of left right (differing left right (suc r) n) ≡ none → (y : ℕ) → suc r ≤ y → y < suc r + n → equal_at y ≡ true) → equal_at x ≡ true
+      go : (t : Bool) → equal_at r ≡ t → (first_of left right (differing left right (suc r) n) ≡ None → (y : ℕ) → suc r ≤ y → y < suc r + n → equal_at y ≡ true) → equal_at x ≡ true
       go true h rest = equal_too x h low (λ less. rest (sym (ap (first_of left right) (one_equal left right r n h)) ∙ e) x less (omega arith))
       go false h rest = absurd (let z = sym (ap (first_of left right) (one_differs left right r n h)) ∙ e in let o : ◌≡◌ {A = ℕ} 0 1 = cc in omega arith)
 
-  in_none : (n r : ℕ) → ((x : ℕ) → r ≤ x → x < r + n → equal_at x ≡ true) → first_of left right (differing left right r n) ≡ none
+  in_none : (n r : ℕ) → ((x : ℕ) → r ≤ x → x < r + n → equal_at x ≡ true) → first_of left right (differing left right r n) ≡ None
   unfolding rows_passing
   in_none zero r h = refl
   in_none (suc n) r h = ap (first_of left right) (one_equal left right r n (h r (omega arith) (omega arith))) ∙ in_none n (suc r) (λ x low high. h x (omega arith) (omega arith))
 
-  first_in : (n r : ℕ) (p : Pair) → first_of left right (differing left right r n) ≡ some p → FirstIn r (r + n) p
+  first_in : (n r : ℕ) (p : Pair) → first_of left right (differing left right r n) ≡ Some p → FirstIn r (r + n) p
   unfolding rows_passing
   first_in zero r p e = absurd (let o : ◌≡◌ {A = ℕ} 0 1 = cc in omega arith)
   first_in (suc n) r p e = go (equal_at r) refl (first_in n (suc r) p)
     where
-      go : (t : Bool) → equal_at r ≡ t → (first_of left right (differing left right (suc r) n) ≡ some p → FirstIn (suc r) (suc r + n) p) → FirstIn r (r + suc n) p
+      go : (t : Bool) → equal_at r ≡ t → (first_of left right (differing left right (suc r) n) ≡ Some p → FirstIn (suc r) (suc r + n) p) → FirstIn r (r + suc n) p
       go true h rest =
           let f = rest (sym (ap (first_of left right) (one_equal left right r n h)) ∙ e) in
           record {
@@ -101,11 +101,11 @@ module _ (left right : ℕ → Outcome ℕ) where
   -- ---- from a given row on
 
   module _ (rows from : ℕ) where
-    pub none_differs : (first_difference left right rows from ≡ none) ↔ ((x : ℕ) → from ≤ x → x < rows → equal_at x ≡ true)
+    pub none_differs : (first_difference left right rows from ≡ None) ↔ ((x : ℕ) → from ≤ x → x < rows → equal_at x ≡ true)
     unfolding first_difference
     none_differs = ((λ e x low high. none_in (rows - from) from e x low (omega arith)), (λ h. in_none (rows - from) from (λ x low high. h x low (omega arith))))
 
-    pub first_differs : (p : Pair) → first_difference left right rows from ≡ some p → FirstIn from rows p
+    pub first_differs : (p : Pair) → first_difference left right rows from ≡ Some p → FirstIn from rows p
     unfolding first_difference
     first_differs p e =
         let f = first_in (rows - from) from p e in
@@ -118,15 +118,15 @@ module _ (left right : ℕ → Outcome ℕ) where
   text_rows rows = let all : rows - 0 ≡ rows = omega arith in ap (differing left right 0) all
 
   -- `lines 0` exactly if nothing differs
-  pub no_line : (rows : ℕ) → (first_difference left right rows 0 ≡ none) ↔ (compared left right rows ≡ named_line (ascii "lines ") 0)
+  pub no_line : (rows : ℕ) → (first_difference left right rows 0 ≡ None) ↔ (compared left right rows ≡ named_line (ascii "lines ") 0)
   unfolding first_difference compared pair_lines pair_line named_line named
   no_line rows = (there (differing left right 0 rows) (text_rows rows), back (differing left right 0 rows) (text_rows rows))
     where
-      there : (l : List ℕ) → differing left right 0 (rows - 0) ≡ l → first_of left right (differing left right 0 (rows - 0)) ≡ none → pair_lines left right l ++ named_line (ascii "lines ") (length l) ≡ named_line (ascii "lines ") 0
+      there : (l : List ℕ) → differing left right 0 (rows - 0) ≡ l → first_of left right (differing left right 0 (rows - 0)) ≡ None → pair_lines left right l ++ named_line (ascii "lines ") (length l) ≡ named_line (ascii "lines ") 0
       there [] is e = refl
       there (r ∷ rs) is e = absurd (let z = sym (ap (first_of left right) is) ∙ e in let o : ◌≡◌ {A = ℕ} 0 1 = cc in omega arith)
 
-      back : (l : List ℕ) → differing left right 0 (rows - 0) ≡ l → pair_lines left right l ++ named_line (ascii "lines ") (length l) ≡ named_line (ascii "lines ") 0 → first_of left right (differing left right 0 (rows - 0)) ≡ none
+      back : (l : List ℕ) → differing left right 0 (rows - 0) ≡ l → pair_lines left right l ++ named_line (ascii "lines ") (length l) ≡ named_line (ascii "lines ") 0 → first_of left right (differing left right 0 (rows - 0)) ≡ None
       back [] is e = ap (first_of left right) is
       back (r ∷ rs) is e =
           let d = digits (suc r) r (omega arith) in
@@ -134,7 +134,7 @@ module _ (left right : ℕ → Outcome ℕ) where
           let other : get_or (pair_lines left right (r ∷ rs) ++ named_line (ascii "lines ") (length (r ∷ rs))) 0 0 ≡ 108 = ap (λ (l : List ℕ). get_or l 0 0) e in
           absurd (omega (arith, first, other, d.3))
 
-  pub first_line_lem : (rows : ℕ) (p : Pair) → first_difference left right rows 0 ≡ some p → (rest : List ℕ) × (compared left right rows ≡ pair_line p.row p.left p.right ++ rest)
+  pub first_line_lem : (rows : ℕ) (p : Pair) → first_difference left right rows 0 ≡ Some p → (rest : List ℕ) × (compared left right rows ≡ pair_line p.row p.left p.right ++ rest)
   unfolding first_difference compared pair_lines
   first_line_lem rows p e = go (differing left right 0 rows) (text_rows rows)
     where
@@ -147,13 +147,17 @@ module _ (left right : ℕ → Outcome ℕ) where
 -- ---- the answer
 
 -- an answer is told by what it means
-pub difference_injective : (a b : Difference) → difference_meaning a ≡ difference_meaning b → a ≡ b
-difference_injective Equal Equal e = refl
-difference_injective Equal (At row left right) e = absurd (let o : ◌≡◌ {A = ℕ} 0 1 = cc in omega arith)
-difference_injective (At row left right) Equal e = absurd (let o : ◌≡◌ {A = ℕ} 0 1 = cc in omega arith)
-difference_injective (At row left right) (At row' left' right') e =
+pub difference_injective : (a b : Option Difference) → difference_meaning a ≡ difference_meaning b → a ≡ b
+difference_injective None None e = refl
+difference_injective None (Some d) e = absurd (let o : ◌≡◌ {A = ℕ} 0 1 = cc in omega arith)
+difference_injective (Some d) None e = absurd (let o : ◌≡◌ {A = ℕ} 0 1 = cc in omega arith)
+difference_injective (Some d) (Some d') e =
     let z = some_same e in
-    let l : left ≡ left' = row_injective left left' (ap (λ (p : Pair). p.left) z) in
-    let r : right ≡ right' = row_injective right right' (ap (λ (p : Pair). p.right) z) in
-    let n : row ≡ row' = ap (λ (p : Pair). p.row) z in
-    cc
+    let left : d.left ≡ d'.left = answered_injective d.left d'.left (ap (λ (p : Pair). p.left) z) in
+    let right : d.right ≡ d'.right = answered_injective d.right d'.right (ap (λ (p : Pair). p.right) z) in
+    let row : d.row ≡ d'.row = ap (λ (p : Pair). p.row) z in
+    let one : Some d ≡ Some (record { row = d'.row; left = d.left; right = d.right }) = ap (λ (n : ℕ). Some (record { row = n; left = d.left; right = d.right })) row in
+    let two : Some (record { row = d'.row; left = d.left; right = d.right }) ≡ Some (record { row = d'.row; left = d'.left; right = d.right }) =
+    ap (λ (l : Result ℕ Refusal). Some (record { row = d'.row; left = l; right = d.right })) left in
+    let three : Some (record { row = d'.row; left = d'.left; right = d.right }) ≡ Some d' = ap (λ (r : Result ℕ Refusal). Some (record { row = d'.row; left = d'.left; right = r })) right in
+    one ∙ two ∙ three

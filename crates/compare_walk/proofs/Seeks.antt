@@ -1,27 +1,26 @@
 -- A search for the first difference under way, over any two readings.
 --     one_equal, one_differs            the rows that differ, by the first
---     is_over, is_on_hand               the phase by what the state says
+--     is_on_hand                        the phase by what the state says
 --     goes_behind, stops_at             a turn
 --     starts                            the beginning
 --     go_less, less_to_go               what is left falls
 --     up_to_end                         rows that lie in a window lie before the end
 -- Assumes nothing.
+use Rattle.format.specs.declared.Refusal.{Refusal}
+use Rattle.format.specs.Refusals.{answered_by}
+use Rattle.std.specs.Prelude.{Some, None, Result}
 use Prim.Native.Nat.{ℕ, zero, suc, ◌+◌, ◌-◌, ◌≤◌, ◌<◌}
 use mathlib.Core.Path.{◌≡◌, refl, sym, ap, ◌∙◌}
 use mathlib.Core.Bool.{Bool, true, false}
-use mathlib.Core.Option.{none, some}
 use mathlib.Core.List.{◌∷◌}
 use native.Mathlib.Nat.{add-zero, zero-add, suc-add, add-suc}
 use native.Mathlib.Omega.{arith}
 use lib.Dec.{ltb}
 use borrow.Author.Tests.{ltb-true, ltb-false}
-use Rattle.format.specs.declared.RowRead.{RowRead}
 use Rattle.format.specs.Comparing.{equal_answers, differing}
 use Rattle.format.specs.Lookup.{rows_passing}
 use Rattle.format.specs.Outcome.{Outcome, pick}
-use Rattle.format.specs.Refusals.{row_meaning}
-use Rattle.format.proofs.Tests.{when, unless, as_when, as_unless}
-use Rattle.compare_walk.specs.declared.Difference.TheVariants.{At}
+use Rattle.format.proofs.Tests.{when, as_when, as_unless}
 use Rattle.compare_walk.specs.declared.walking.Walk.{Walk}
 use Rattle.compare_walk.specs.Differences.{first_difference, difference_meaning}
 use Rattle.compare_walk.specs.Equal.{EqualFor}
@@ -47,7 +46,7 @@ module _ (left right : ℕ → Outcome ℕ) where
       let here : equal_at r ≡ true = rw (add-zero r) at (h 0 (omega arith)) in
       rw (suc-add m n, one_equal r (m + n) here, skipped (suc r) m n (λ i k. ap equal_at (suc-add r i ∙ sym (add-suc r i)) ∙ h (suc i) (omega arith)), suc-add r m, add-suc r m)
 
-  first_here : (rows r : ℕ) → r < rows → equal_at r ≡ false → first_difference left right rows r ≡ some (record { row = r; left = left r; right = right r })
+  first_here : (rows r : ℕ) → r < rows → equal_at r ≡ false → first_difference left right rows r ≡ Some (record { row = r; left = left r; right = right r })
   unfolding first_difference
   first_here rows r less e = let more : rows - r ≡ suc (rows - (r + 1)) = omega arith in rw (more, one_differs r (rows - (r + 1)) e)
 
@@ -63,11 +62,11 @@ module _ (left right : ℕ → Outcome ℕ) where
     passed all = let same : n ≡ size = omega (arith, f.most) in behind ∙ ap (λ (k : ℕ). first_difference left right rows (r + k)) same
 
     -- one differs
-    found : n < size → first_difference left right rows r ≡ some (record { row = r + n; left = left (r + n); right = right (r + n) })
+    found : n < size → first_difference left right rows r ≡ Some (record { row = r + n; left = left (r + n); right = right (r + n) })
     found less = behind ∙ first_here rows (r + n) (omega arith) (f.next less)
 
   -- no rows are left
-  none_left : (rows r : ℕ) → rows ≤ r → first_difference left right rows r ≡ none
+  none_left : (rows r : ℕ) → rows ≤ r → first_difference left right rows r ≡ None
   unfolding first_difference rows_passing
   none_left rows r h = let over : rows - r ≡ 0 = omega arith in rw over
 
@@ -75,9 +74,6 @@ module _ (left right : ℕ → Outcome ℕ) where
     module _ (w : Walk) where
       abbrev Over : Type 0
       Over = difference_meaning w.answer ≡ first_difference left right rows from
-
-      pub is_over : Seeking left right rows from w → w.going ≡ false → difference_meaning w.answer ≡ first_difference left right rows from
-      is_over f e = unless (OnHand left right rows from w) Over w.going e f.phase
 
       pub is_on_hand : Seeking left right rows from w → w.going ≡ true → OnHand left right rows from w
       is_on_hand f e = when (OnHand left right rows from w) Over w.going e f.phase
@@ -100,8 +96,8 @@ module _ (left right : ℕ → Outcome ℕ) where
       goes_behind all = rw f.going.all (goes_on (w.at + size) (f.rest ∙ passed rows w.at size within looked all))
 
       -- at a row that differs
-      pub stops_at : n < size → {x y : RowRead} → row_meaning x ≡ left (w.at + n) → row_meaning y ≡ right (w.at + n)
-          → Seeking left right rows from (record { at = w.at + n; end = w.end; going = false; answer = At (w.at + n) x y })
+      pub stops_at : n < size → {x y : Result ℕ Refusal} → answered_by x ≡ left (w.at + n) → answered_by y ≡ right (w.at + n)
+          → Seeking left right rows from (record { at = w.at + n; end = w.end; going = false; answer = Some (record { row = w.at + n; left = x; right = y }) })
       stops_at less {x} {y} l r = record { phase = rw (l, r) (sym (f.rest ∙ found rows w.at size within looked less)) }
 
   -- ---- how it begins

@@ -1,15 +1,13 @@
 -- The first row from a given one on whose answers differ, over any two readings of rows.
 -- Assumes nothing.
-use Rattle.std.specs.Prelude.{ℕ, ◌-◌, max, List, [], ◌∷◌}
-use Rattle.std.proofs.Math.Option.{Option, none, some}
+use Rattle.format.specs.Refusals.{answered_by}
+use Rattle.std.specs.Prelude.{ℕ, ◌-◌, max, List, [], ◌∷◌, Option, Some, None}
 use Rattle.format.specs.declared.Block.{Block}
 use Rattle.format.specs.declared.Column.{Column}
 use Rattle.format.specs.Comparing.{differing}
 use Rattle.format.specs.Outcome.{Outcome}
 use Rattle.format.specs.Reading.{row_at}
-use Rattle.format.specs.Refusals.{row_meaning}
 use Rattle.compare_walk.specs.declared.Difference.{Difference}
-use Rattle.compare_walk.specs.declared.Difference.TheVariants.{Equal, At}
 
 -- a row, with what each side answers there
 pub record Pair : Type 0 where
@@ -19,8 +17,8 @@ pub record Pair : Type 0 where
 
 -- the first of some rows, with both answers
 abbrev pub first_of : (left right : ℕ → Outcome ℕ) → List ℕ → Option Pair
-first_of left right [] = none
-first_of left right (r ∷ rs) = some (record { row = r; left = left r; right = right r })
+first_of left right [] = None
+first_of left right (r ∷ rs) = Some (record { row = r; left = left r; right = right r })
 
 -- the first of so many rows, from a given one on, whose answers differ
 unfoldable pub first_difference : (left right : ℕ → Outcome ℕ) (rows from : ℕ) → Option Pair
@@ -32,6 +30,6 @@ columns_differ left ltable lbytes right rtable rbytes from =
     first_difference (row_at left ltable lbytes) (row_at right rtable rbytes) (max left.window.rows right.window.rows) from
 
 -- what comparing found
-abbrev pub difference_meaning : Difference → Option Pair
-difference_meaning Equal = none
-difference_meaning (At row left right) = some (record { row = row; left = row_meaning left; right = row_meaning right })
+abbrev pub difference_meaning : Option Difference → Option Pair
+difference_meaning None = None
+difference_meaning (Some d) = Some (record { row = d.row; left = answered_by d.left; right = answered_by d.right })

@@ -1,11 +1,10 @@
 -- A search for the first difference under way. Over any two readings.
 -- Assumes nothing.
-use Rattle.std.specs.Prelude.{ℕ, ◌+◌, ◌-◌, ◌/◌, ◌%◌, ◌^◌, ◌≤◌, ◌<◌, max, ◌≡◌, true, List, ltb, length}
+use Rattle.std.specs.Prelude.{ℕ, ◌+◌, ◌-◌, ◌/◌, ◌%◌, ◌^◌, ◌≤◌, ◌<◌, max, ◌≡◌, true, List, ltb, length, None}
 use Rattle.format.specs.declared.Block.{Block}
 use Rattle.format.specs.declared.Column.{Column}
 use Rattle.format.specs.Outcome.{Outcome, pick}
 use Rattle.format.specs.Reading.{column_row, block_at, row_at}
-use Rattle.compare_walk.specs.declared.Difference.TheVariants.{Equal}
 use Rattle.compare_walk.specs.declared.walking.Walk.{Walk}
 use Rattle.compare_walk.specs.Differences.{first_difference, difference_meaning}
 
@@ -15,7 +14,7 @@ Same read other r n = (x : ℕ) → r ≤ x → x < r + n → read x ≡ other x
 
 -- going on with a row, up to an end: where none is left, nothing differs
 abbrev pub onwards : (at end : ℕ) → Walk
-onwards at end = record { at = at; end = end; going = ltb at end; answer = Equal }
+onwards at end = record { at = at; end = end; going = ltb at end; answer = None }
 
 -- the rows left
 abbrev pub to_go : Walk → ℕ

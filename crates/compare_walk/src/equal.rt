@@ -1,13 +1,13 @@
 // How many rows from one on have equal answers, within a chunk of both columns: by the values of all its rows, where both columns decode it as a whole, and row by row where one does not.
 ghost use Rattle.std.specs.Prelude.{◌≡◌, ◌+◌, ◌^◌, ◌≤◌, length};
 ghost use Rattle.format.specs.Comparing.{equal_answers};
-ghost use Rattle.format.specs.Refusals.{row_meaning};
 ghost use Rattle.read_row.specs.Chunks.{Chunk};
 ghost use Rattle.compare_walk.specs.Equal.{side_row, list_row, EqualFor, shared_size, LookedAt};
+ghost use Rattle.format.specs.Refusals.{answered_by};
 
-use format::{Block, Column, RowRead, WindowRow};
+use format::{Block, Column, Refusal, WindowRow, equal_answers};
 use read_chunk::{chunk_size, cut};
-use read_row::reader::{Decoded, column_row, decode, row_in};
+use read_row::reader::{column_row, decode, row_in};
 
 // One side of a comparison: a column, with a block out of its table of so many.
 #[derive(Clone, Copy)]
@@ -24,25 +24,9 @@ pub struct Looked {
     pub equal: usize,
 }
 
-// Whether two answers are equal: refusals are by their numbers.
-fn are_equal(left: RowRead, right: RowRead) -> bool
-    ensures { result ≡ equal_answers (row_meaning left) (row_meaning right) }
-{
-    match left {
-        RowRead::Value(v) => match right {
-            RowRead::Value(w) => v == w,
-            RowRead::Refused(_) => false,
-        },
-        RowRead::Refused(a) => match right {
-            RowRead::Value(_) => false,
-            RowRead::Refused(b) => a.number() == b.number(),
-        },
-    }
-}
-
 // A row of a side's window.
-pub(crate) fn row_of(side: Side, bytes: &[u8], row: u32) -> RowRead
-    ensures { row_meaning result ≡ side_row side bytes.now row }
+pub(crate) fn row_of(side: Side, bytes: &[u8], row: u32) -> Result<u64, Refusal>
+    ensures { answered_by result ≡ side_row side bytes.now row }
 {
     row_in(side.column, side.blocks, side.block, bytes, WindowRow(row))
 }
@@ -51,7 +35,7 @@ pub(crate) fn row_of(side: Side, bytes: &[u8], row: u32) -> RowRead
 fn equal_at(left: Side, lbytes: &[u8], right: Side, rbytes: &[u8], row: u32) -> bool
     ensures { result ≡ equal_answers (side_row left lbytes.now row) (side_row right rbytes.now row) }
 {
-    are_equal(row_of(left, lbytes, row), row_of(right, rbytes, row))
+    equal_answers(row_of(left, lbytes, row), row_of(right, rbytes, row))
 }
 
 // Internal: asks for rows below 2^32. How many have equal answers, row by row.
@@ -66,14 +50,12 @@ fn equal_rows(
     requires { first + size ≤ 2 ^ 32 }
     ensures { EqualFor (side_row left lbytes.now) (side_row right rbytes.now) first size result }
 {
-    let mut i = 0;
-    while i < size {
+    for i in 0..size {
         if !equal_at(left, lbytes, right, rbytes, first + i as u32) {
             return i;
         }
-        i += 1;
     }
-    i
+    size
 }
 
 // Internal: asks for lists of one length. How many values are equal.
@@ -81,14 +63,10 @@ fn equal_values(left: &[u64], right: &[u64]) -> usize
     requires { length left.now ≡ length right.now }
     ensures { EqualFor (list_row left.now) (list_row right.now) 0 (length left.now) result }
 {
-    let mut i = 0;
-    while i < left.len() {
-        if left[i] != right[i] {
-            return i;
-        }
-        i += 1;
-    }
-    i
+    left.iter()
+        .zip(right)
+        .position(|(l, r)| l != r)
+        .unwrap_or(left.len())
 }
 
 // Internal: asks for a chunk of both columns, and two lists of its size. How many of its rows have equal answers.
@@ -113,7 +91,7 @@ fn equal_chunk(
         WindowRow(first),
         lvalues,
     );
-    if let Decoded::Refused(_) = decoded {
+    if let Err(_) = decoded {
         return equal_rows(left, lbytes, right, rbytes, first, size);
     }
     let also = decode(
@@ -124,7 +102,7 @@ fn equal_chunk(
         WindowRow(first),
         rvalues,
     );
-    if let Decoded::Refused(_) = also {
+    if let Err(_) = also {
         return equal_rows(left, lbytes, right, rbytes, first, size);
     }
     equal_values(lvalues, rvalues)

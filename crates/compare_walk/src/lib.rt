@@ -2,18 +2,15 @@
 // chunk to chunk. Who has the columns' blocks hands each turn its own.
 #![tactic(auto)]
 
-use format::RowRead;
-
 pub mod equal;
 pub mod walking;
 
-// What comparing finds: no row whose answers differ, or the first with both answers.
+use format::Refusal;
+
+// A row whose answers differ, with both.
 #[derive(Clone, Copy)]
-pub enum Difference {
-    Equal,
-    At {
-        row: u32,
-        left: RowRead,
-        right: RowRead,
-    },
+pub struct Difference {
+    pub row: u32,
+    pub left: Result<u64, Refusal>,
+    pub right: Result<u64, Refusal>,
 }

@@ -8,7 +8,6 @@ ghost use Rattle.compare_walk.specs.Walking.{Same, to_go, onwards, UnderWay, OnH
 use crate::Difference;
 use crate::equal::{Looked, Side, look, row_of};
 use format::{Block, Column, WindowRow};
-use read_row::reader::column_row;
 
 // The rows before `at` have equal answers. While the search is going on there are rows left, up to the end; then its answer stands.
 #[derive(Clone, Copy)]
@@ -16,15 +15,14 @@ pub struct Walk {
     pub at: u32,
     pub end: u32,
     pub going: bool,
-    pub answer: Difference,
+    pub answer: Option<Difference>,
 }
 
 // The block of the row at hand, as the column counts the window's rows.
 pub fn block_of(column: Column, w: Walk) -> usize
     ensures { result ≡ column_row column w.at % 2 ^ 32 / 512 }
 {
-    let row = column_row(column.window.first, WindowRow(w.at));
-    blockwise_rows::reader::split(row).block
+    read_row::reader::block_of(column, WindowRow(w.at))
 }
 
 // Goes on with a row: where none is left before the end, nothing differs.
@@ -35,7 +33,7 @@ fn go_on(at: u32, end: u32) -> Walk
         at,
         end,
         going: at < end,
-        answer: Difference::Equal,
+        answer: None,
     }
 }
 
@@ -63,11 +61,11 @@ fn turned(left: Side, lbytes: &[u8], right: Side, rbytes: &[u8], w: Walk, looked
             at: row,
             end: w.end,
             going: false,
-            answer: Difference::At {
+            answer: Some(Difference {
                 row,
                 left: lanswer,
                 right: ranswer,
-            },
+            }),
         };
     }
     go_on(w.at + looked.size as u32, w.end)

@@ -8,7 +8,7 @@ use Rattle.std.proofs.Common.{◌≡◌, ℕ, suc, ◌+◌, ◌-◌, ◌*◌, �
 use Prim.Native.Nat.{compare, Ordering}
 use native.Mathlib.Nat.{eq_of_mul-eq-mul_right}
 use lib.Pow.{pow-lt}
-use lib.Ieee.{Float, nan, inf, fin, binary32, up, down, size, nearest, units, round, mul, div, lt, le, eq, of_int, of_bits, of_fields, to_unsigned}
+use lib.Ieee.{Float, nan, inf, fin, binary32, up, down, size, nearest, round, mul, div, lt, le, eq, of_int, of_bits, of_fields, to_unsigned}
 use lib.Ieee.Digits.{size-lt, size-le}
 use lib.Ieee.Fits.{down_pos}
 use lib.Ieee.Exact.{HasValue, odd_sign, round_exact}

@@ -40,10 +40,8 @@ fn exponent(gcd: u64) -> u64
 {
     let x = crate::nearest(gcd);
     let mut last: u64 = 0;
-    let mut k: usize = 0;
-    while k < 65 {
+    for k in 0..65 {
         last = tried(x, k, last);
-        k += 1;
     }
     last
 }

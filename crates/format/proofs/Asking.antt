@@ -1,5 +1,6 @@
 -- What a case asks of the definitions, and what they answer.
 -- Assumes nothing.
+use Rattle.std.specs.Prelude.{Option, Some, None}
 use Prim.Native.Nat.{ℕ}
 use mathlib.Core.List.{List, [], ◌∷◌, ◌++◌, map}
 use Rattle.format.specs.declared.Block.{Block}
@@ -7,8 +8,6 @@ use Rattle.format.specs.declared.Codec.{Codec}
 use Rattle.format.specs.declared.Codec.TheVariants.{Bitpacked, Linear, Blockwise}
 use Rattle.format.specs.declared.Column.{Column}
 use Rattle.format.specs.declared.Field.{Field}
-use Rattle.format.specs.declared.Spelling.{Spelling}
-use Rattle.format.specs.declared.Spelling.TheVariants.{Shortest, Longer}
 use Rattle.format.specs.Outcome.{Outcome, ◌>>=◌, Outcome.value}
 use Rattle.format.specs.Varint.{spell, read_varint}
 use Rattle.format.specs.Packing.{width}
@@ -29,7 +28,7 @@ use Rattle.format.specs.Comparing.{comparison}
 -- a sheet, bytes and blocks; bytes, blocks and a row; a made-up column, table, bytes and a row; the same with how many rows; bytes, low, high, first, end and room; the same of a made-up column, with its table; a made-up column, a first row and how many; codecs, values and a row of what was written; bytes in a program;
 -- the listing of bytes; the comparison of two
 pub data Asked : Type 0 where
-  spelling : ℕ → Asked
+  longer : ℕ → Asked
   field : List ℕ → ℕ → Asked
   width_of : ℕ → Asked
   saving_of : ℕ → ℕ → Asked
@@ -75,9 +74,9 @@ numbers_of o =
     ∷ (codec_numbers o.column.codec ++ table_numbers o.table)
 
 -- a spelling as a list: the offset of the first longer one, or nothing
-abbrev pub longer_at : Spelling → List ℕ
-longer_at Shortest = []
-longer_at (Longer offset) = offset ∷ []
+abbrev pub longer_at : Option ℕ → List ℕ
+longer_at None = []
+longer_at (Some offset) = offset ∷ []
 
 -- one number as a list
 abbrev pub alone : Outcome ℕ → Outcome (List ℕ)
@@ -85,14 +84,14 @@ alone o = o >>= (λ (v : ℕ). value (v ∷ []))
 
 -- what the definitions answer
 unfoldable pub answer : Asked → Outcome (List ℕ)
-answer (spelling n) = value (spell n)
-answer (field s at) = read_varint s at >>= (λ (f : Field). value (f.value ∷ f.next ∷ f.used ∷ longer_at f.spelling))
+answer (longer n) = value (spell n)
+answer (field s at) = read_varint s at >>= (λ (f : Field). value (f.value ∷ f.next ∷ f.used ∷ longer_at f.longer))
 answer (width_of n) = value (width n ∷ [])
 answer (saving_of gcd rows) = value (saving gcd rows ∷ [])
 answer (training vs) = value (line_of vs)
 answer (writing cs vs room) = written vs cs room
 answer (opening s room) = opened s room >>= (λ (o : Loaded). value (numbers_of o))
-answer (spelled s room) = opened s room >>= (λ (o : Loaded). value (longer_at o.spelling))
+answer (spelled s room) = opened s room >>= (λ (o : Loaded). value (longer_at o.longer))
 answer (sheet n s room) = opened_under n s room >>= (λ (o : Loaded). value (o.column.rows ∷ []))
 answer (reading s room r) = opened s room >>= (λ (o : Loaded). alone (row_at o.column o.table s r))
 answer (made col t s r) = alone (row_at col t s r)

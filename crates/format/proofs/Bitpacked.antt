@@ -1,7 +1,7 @@
 -- Bitpacked's round trip (`bitpacked_round`), and that its size in the choice is the length of what it writes (`bitpacked_size`).
 -- Assumes nothing.
+use Rattle.std.specs.Prelude.{Some, None}
 use mathlib.Core.Path.{◌≡◌, refl, sym, ap, ◌∙◌}
-use mathlib.Core.Option.{none, some}
 use mathlib.Core.List.{List, [], ◌∷◌, ◌++◌, append-nil}
 use Prim.Native.Nat.{ℕ, ◌+◌, ◌-◌, ◌*◌, ◌/◌, ◌%◌, ◌^◌, ◌<◌}
 use native.Mathlib.Nat.{add-zero}
@@ -9,7 +9,6 @@ use native.Mathlib.Omega.{arith}
 use lib.ListN.{length, get_or, length-append}
 use borrow.Author.Tests.{le-leb}
 use Rattle.format.specs.declared.Codec.TheVariants.{Bitpacked}
-use Rattle.format.specs.declared.Spelling.TheVariants.{Shortest}
 use Rattle.format.specs.Outcome.{Outcome.value}
 use Rattle.format.specs.Word.{bytes_for, AllBelow}
 use Rattle.format.specs.Packing.{width, packed}
@@ -61,11 +60,11 @@ module _ (vs : List ℕ) where
     column_opens room = opens_bitpacked column (written_head vs) room (record { begun = begins 0 vs area (omega arith) each few; area = omega (arith, column_length) })
 
     -- nothing offends sheet 2
-    column_passes : strict column (bitpacked_of (written_head vs)).column Shortest ≡ value tt
+    column_passes : strict column (bitpacked_of (written_head vs)).column None ≡ value tt
     unfolding strict ending
     column_passes =
         let start = 1 + length (head_bytes vs) in
-        let full : overfull column (start + bytes_for (bits * length ns) - 1) (bits * length ns % 8) ≡ none =
+        let full : overfull column (start + bytes_for (bits * length ns) - 1) (bits * length ns % 8) ≡ None =
         overfull-packed column start bits ns [] (behind_head 0 vs area ∙ sym (append-nil area)) in
         clean_column column (bitpacked_of (written_head vs)).column _
         (ap (λ (n : ℕ). overfull column (start + bytes_for (bits * n) - 1) (bits * n % 8)) (sym (multiples_length vs)) ∙ full)
@@ -95,8 +94,8 @@ bitpacked_round vs each few applies = record {
 }
 
 -- its size in the choice is the length of what it writes
-pub bitpacked_size : (vs : List ℕ) → size_of 0 (stats_of vs) vs ≡ some (length (body 0 (stats_of vs) vs))
+pub bitpacked_size : (vs : List ℕ) → size_of 0 (stats_of vs) vs ≡ Some (length (body 0 (stats_of vs) vs))
 unfolding size_of stats_of
 bitpacked_size vs =
     let long : length (head_bytes vs) + size vs ≡ length (body 0 (stats_of vs) vs) = omega (arith, column_length vs, ap length (column_is vs)) in
-    ap some long
+    ap Some long

@@ -3,6 +3,7 @@
 --     blame_alike, blame          a row that no differing byte names answers the same; one whose bits differ answers otherwise, unless both answers are 14
 --     blame_one, blame_none       one byte that differs names every row whose bits differ; bytes behind the area change no answer
 -- Assumes nothing.
+use Rattle.std.specs.Prelude.{Option, Some, None}
 use Prim.Native.Nat.{ℕ, ◌+◌, ◌*◌, ◌/◌, ◌%◌, ◌≤◌, ◌<◌}
 use mathlib.Core.Path.{◌≡◌, sym, ap, ◌∙◌, subst}
 use mathlib.Core.Logic.{◌⊎◌, inl, inr, ⊎_elim}
@@ -11,8 +12,6 @@ use native.Mathlib.Omega.{arith}
 use lib.ListN.{length, drop, get_or}
 use lib.Seq.{get_or-take, get_or-drop}
 use Rattle.format.specs.declared.Block.{Block}
-use Rattle.format.specs.declared.Owners.{Owners}
-use Rattle.format.specs.declared.Owners.TheVariants.{Rows, NoRow}
 use Rattle.format.specs.Outcome.{Outcome.value}
 use Rattle.format.specs.Packing.{rows_bits, bits_of, bit_at}
 use Rattle.format.specs.Opening.{Loaded, opened}
@@ -86,8 +85,8 @@ pub blame : Blame
 blame s t table other o p so tp f = blame_alike s t table other o p so tp (same_alike f)
 
 -- a row is named or not
-named-or : (a : Owners) (r : ℕ) → Named a r ⊎ (Named a r → ⊥)
-named-or (Rows first last) r =
+named-or : (a : Option (ℕ × ℕ)) (r : ℕ) → Named a r ⊎ (Named a r → ⊥)
+named-or (Some (first, last)) r =
     ⊎_elim
     (λ (before : r < first). inr (λ name. omega (arith, name.0)))
     (λ (low : first ≤ r).
@@ -96,7 +95,7 @@ named-or (Rows first last) r =
     (λ (high : r ≤ last). inl (low, high))
     (below_or last r))
     (below_or r first)
-named-or NoRow r = inr (λ name. name)
+named-or None r = inr (λ name. name)
 
 pub blame_one : BlameOne
 blame_one s t room o e len i only r h differs =

@@ -1,7 +1,7 @@
 -- Blockwise's round trip (`blockwise_round`), what its column opens to (`blockwise_opens`), and each block of its table (`blockwise_table`).
 -- Assumes nothing.
+use Rattle.std.specs.Prelude.{None}
 use mathlib.Core.Path.{◌≡◌, refl, sym, ap, ap₂, ◌∙◌}
-use mathlib.Core.Option.{none}
 use mathlib.Core.List.{List, [], ◌∷◌, ◌++◌, append_assoc, append-nil}
 use Prim.Native.Nat.{ℕ, zero, suc, ◌+◌, ◌-◌, ◌*◌, ◌/◌, ◌%◌, ◌^◌, ◌≤◌, ◌<◌}
 use native.Mathlib.Nat.{zero-add, lt_of_le_of_lt}
@@ -13,7 +13,6 @@ use Rattle.format.specs.declared.Block.{Block}
 use Rattle.format.specs.declared.Codec.TheVariants.{Blockwise}
 use Rattle.format.specs.declared.Head.{Head}
 use Rattle.format.specs.declared.Line.{Line}
-use Rattle.format.specs.declared.Spelling.TheVariants.{Shortest}
 use Rattle.format.specs.Outcome.{Outcome.value}
 use Rattle.format.specs.Word.{mod_add, AllBelow}
 use Rattle.format.specs.Packing.{unpack, bytes_num, num_bytes}
@@ -105,7 +104,7 @@ module _ (vs : List ℕ) where
   column_is = refl
 
   abbrev pub opens : Loaded
-  opens = record { column = column_of (written_head vs) (1 + length (head_bytes vs)) (length area) Blockwise; table = table_from 0 parts; spelling = Shortest }
+  opens = record { column = column_of (written_head vs) (1 + length (head_bytes vs)) (length area) Blockwise; table = table_from 0 parts; longer = None }
 
   blocks_many : length parts ≡ block_count (length vs)
   unfolding blocks
@@ -117,7 +116,7 @@ module _ (vs : List ℕ) where
   foot_short few = omega (arith, joined_most block_entry 21 entry_most parts, blocks_many)
 
   -- the footer is read as the table, whatever stands before it
-  foot_read : (front : List ℕ) → read_blocks (block_count (length vs)) (front ++ foot) (length front) 0 (length vs) ≡ value (record { blocks = table_from 0 parts; area = length area; spelling = Shortest })
+  foot_read : (front : List ℕ) → read_blocks (block_count (length vs)) (front ++ foot) (length front) 0 (length vs) ≡ value (record { blocks = table_from 0 parts; area = length area; longer = None })
   unfolding blocks
   foot_read front =
       ap (λ (n : ℕ). read_blocks (block_count n) (front ++ foot) (length front) 0 n) (sym (multiples_length vs))
@@ -134,7 +133,7 @@ module _ (vs : List ℕ) where
 
     -- the areas leave nothing in their last byte
     area_clean : (k : ℕ) (more : List ℕ) → block_count (length ns) ≡ k
-        → overfull (2 ∷ (head_bytes vs ++ (area ++ more))) (1 + length (head_bytes vs) + length area - 1) (last_width 0 k ns * length vs % 8) ≡ none
+        → overfull (2 ∷ (head_bytes vs ++ (area ++ more))) (1 + length (head_bytes vs) + length area - 1) (last_width 0 k ns * length vs % 8) ≡ None
     unfolding last_width blocks_in
     area_clean zero more nothing =
         let bits : 0 * length vs % 8 ≡ 0 = omega arith in
@@ -152,7 +151,7 @@ module _ (vs : List ℕ) where
         rw split (rw (← place (length (joined block_area (blocks_in j ns ++ (block ∷ []))))) (last_clean (2 ∷ head_bytes vs) more (blocks_in j ns) block _ bits))
 
     -- nothing offends sheet 2
-    column_passes : strict column opens.column Shortest ≡ value tt
+    column_passes : strict column opens.column None ≡ value tt
     unfolding strict blocks
     column_passes =
         let front : List ℕ = 2 ∷ (head_bytes vs ++ area) in

@@ -4,10 +4,10 @@
 --     matches_found                  then every lookup answers as the list
 --     head_kept, written-passed      what was written from a list is passed for it, wherever the table has room
 -- Assumes nothing.
+use Rattle.std.specs.Prelude.{Option, Some, None}
 use Prim.Native.Nat.{ℕ, zero, suc, ◌+◌, ◌*◌, ◌^◌, ◌≤◌, ◌<◌}
 use mathlib.Core.Path.{◌≡◌, refl, sym, ap, ◌∙◌, subst}
 use mathlib.Core.Bool.{Bool, true, false}
-use mathlib.Core.Option.{Option, none, some}
 use mathlib.Core.List.{List, [], ◌∷◌}
 use native.Mathlib.Nat.{add-zero, add-suc, suc-add, zero-add, not-suc-le-zero, le_of_suc-le-suc, mul_comm}
 use native.Mathlib.Omega.{arith}
@@ -43,7 +43,7 @@ answer_equal (value w) v e = ap value (eqb-true w v e)
 answer_equal (refusal number also) v e = let z : ◌≡◌ {A = ℕ} 0 1 = cc in absurd (omega arith)
 
 module _ (read : ℕ → Outcome ℕ) where
-  pub equal_all : (r : ℕ) (vs : List ℕ) → ((i : ℕ) → i < length vs → read (r + i) ≡ value (get_or vs i 0)) → first_unequal read r vs ≡ none
+  pub equal_all : (r : ℕ) (vs : List ℕ) → ((i : ℕ) → i < length vs → read (r + i) ≡ value (get_or vs i 0)) → first_unequal read r vs ≡ None
   unfolding first_unequal
   equal_all r [] h = refl
   equal_all r (v ∷ vs) h =
@@ -51,13 +51,13 @@ module _ (read : ℕ → Outcome ℕ) where
       let rest = equal_all (suc r) vs (λ (i : ℕ) (k : i < length vs). ap read (suc-add r i ∙ sym (add-suc r i)) ∙ h (suc i) (omega arith)) in
       rw (first, eq-eqb v v refl) rest
 
-  pub all_equal : (r : ℕ) (vs : List ℕ) → first_unequal read r vs ≡ none → (i : ℕ) → i < length vs → read (r + i) ≡ value (get_or vs i 0)
+  pub all_equal : (r : ℕ) (vs : List ℕ) → first_unequal read r vs ≡ None → (i : ℕ) → i < length vs → read (r + i) ≡ value (get_or vs i 0)
   unfolding first_unequal
   all_equal r [] e i h = absurd (not-suc-le-zero h)
   all_equal r (v ∷ vs) e i h = by (equal_answers (read r) (value v)) refl (λ f j k. all_equal (suc r) vs f j k) e i h
     where
-      by : (t : Bool) → equal_answers (read r) (value v) ≡ t → (first_unequal read (suc r) vs ≡ none → (j : ℕ) → j < length vs → read (suc r + j) ≡ value (get_or vs j 0))
-          → pick t (first_unequal read (suc r) vs) (some r) ≡ none → (i : ℕ) → i < suc (length vs) → read (r + i) ≡ value (get_or (v ∷ vs) i 0)
+      by : (t : Bool) → equal_answers (read r) (value v) ≡ t → (first_unequal read (suc r) vs ≡ None → (j : ℕ) → j < length vs → read (suc r + j) ≡ value (get_or vs j 0))
+          → pick t (first_unequal read (suc r) vs) (Some r) ≡ None → (i : ℕ) → i < suc (length vs) → read (r + i) ≡ value (get_or (v ∷ vs) i 0)
       by true a later e zero h = ap read (add-zero r) ∙ answer_equal (read r) v a
       by true a later e (suc j) h = ap read (add-suc r j ∙ sym (suc-add r j)) ∙ later e j (le_of_suc-le-suc h)
       by false a later e i h = let z : ◌≡◌ {A = ℕ} 0 1 = cc in absurd (omega arith)
@@ -74,7 +74,7 @@ module _ (read : ℕ → Outcome ℕ) (col : Column) (vs : List ℕ) where
   pub matches_passed : Matches read col vs → judged read col vs ≡ passed
   unfolding judged judged_head
   matches_passed m =
-      let all : first_unequal read 0 vs ≡ none = equal_all read 0 vs (λ i h. ap read (zero-add i) ∙ m.rows i h) in
+      let all : first_unequal read 0 vs ≡ None = equal_all read 0 vs (λ i h. ap read (zero-add i) ∙ m.rows i h) in
       rw (
         eq-eqb col.rows (length vs) m.count,
         all,
@@ -89,9 +89,9 @@ module _ (read : ℕ → Outcome ℕ) (col : Column) (vs : List ℕ) where
   test_passed true reason next e = (refl, e)
   test_passed false reason next e = let z : ◌≡◌ {A = ℕ} 0 1 = cc in absurd (omega arith)
 
-  rows_passed : (o : Option ℕ) (next : Verdict) → by_row o next ≡ passed → (o ≡ none) × (next ≡ passed)
-  rows_passed none next e = (refl, e)
-  rows_passed (some r) next e = let z : ◌≡◌ {A = ℕ} 0 1 = cc in absurd (omega arith)
+  rows_passed : (o : Option ℕ) (next : Verdict) → by_row o next ≡ passed → (o ≡ None) × (next ≡ passed)
+  rows_passed None next e = (refl, e)
+  rows_passed (Some r) next e = let z : ◌≡◌ {A = ℕ} 0 1 = cc in absurd (omega arith)
 
   pub passed_matches : judged read col vs ≡ passed → Matches read col vs
   unfolding judged judged_head

@@ -4,6 +4,7 @@
 --     written-passes      what was written passes both sheets
 --     found_rows          what a lookup in the column finds
 -- Assumes nothing.
+use Rattle.std.specs.Prelude.{Option, None}
 use mathlib.Core.Path.{◌≡◌, sym, ap, ◌∙◌}
 use mathlib.Core.List.{List, [], ◌∷◌}
 use Prim.Native.Nat.{ℕ, zero, suc, ◌-◌, ◌^◌, ◌≤◌, min}
@@ -11,8 +12,6 @@ use native.Mathlib.Omega.{arith}
 use lib.Dec.{leb}
 use lib.ListN.{length}
 use Rattle.format.specs.declared.Block.{Block}
-use Rattle.format.specs.declared.Spelling.{Spelling}
-use Rattle.format.specs.declared.Spelling.TheVariants.{Shortest}
 use Rattle.format.specs.Outcome.{Outcome.value, ◌>>◌, demand}
 use Rattle.format.specs.Word.{AllBelow}
 use Rattle.format.specs.Bodies.{block_count, column_by}
@@ -46,12 +45,12 @@ returns vs cs bytes table room each e enough =
 
 -- its numbers are spelled as short as can be
 pub written_shortest : (vs cs bytes : List ℕ) (table : List Block) (room : ℕ) → AllBelow (2 ^ 64) vs → written vs cs room ≡ value bytes → block_count (length vs) ≤ length table
-    → (o : Loaded) → opened bytes (length table) ≡ value o → o.spelling ≡ Shortest
+    → (o : Loaded) → opened bytes (length table) ≡ value o → o.longer ≡ None
 written_shortest vs cs bytes table room each e enough o opens =
     let w = written_as vs cs bytes room e in
     let back = any_codec w.codec w.known vs each w.few w.applies in
     let there : opened bytes (length table) ≡ value back.loaded = ap (λ (s : List ℕ). opened s (length table)) w.is ∙ (gives_back back table enough).0 in
-    ap (λ (l : Loaded). l.spelling) (value_same (sym opens ∙ there)) ∙ back.shortest
+    ap (λ (l : Loaded). l.longer) (value_same (sym opens ∙ there)) ∙ back.shortest
 
 -- and it passes both sheets
 pub written-passes : (vs cs bytes : List ℕ) (table : List Block) (room : ℕ) → AllBelow (2 ^ 64) vs → written vs cs room ≡ value bytes → block_count (length vs) ≤ length table
@@ -63,10 +62,10 @@ written-passes vs cs bytes table room each e enough o opens =
     let back = any_codec w.codec w.known vs each w.few w.applies in
     let there : opened bytes (length table) ≡ value back.loaded = ap (λ (s : List ℕ). opened s (length table)) w.is ∙ (gives_back back table enough).0 in
     let same : o ≡ back.loaded = value_same (sym opens ∙ there) in
-    let passes : strict bytes o.column o.spelling ≡ value tt =
-    ap (λ (s : List ℕ). strict s o.column o.spelling) w.is
-    ∙ ap (λ (l : Loaded). strict (column_by w.codec vs) l.column l.spelling) same
-    ∙ ap (λ (p : Spelling). strict (column_by w.codec vs) back.loaded.column p) back.shortest
+    let passes : strict bytes o.column o.longer ≡ value tt =
+    ap (λ (s : List ℕ). strict s o.column o.longer) w.is
+    ∙ ap (λ (l : Loaded). strict (column_by w.codec vs) l.column l.longer) same
+    ∙ ap (λ (p : Option ℕ). strict (column_by w.codec vs) back.loaded.column p) back.shortest
     ∙ back.passes in
     (opens, rw (opens, passes))
 

@@ -2,8 +2,8 @@
 --     last_width, last_width_lem, read_last          where a footer stands, the last block's width and the footer's end are found
 --     last_bits, last_clean                     the bits behind the last block's rows are 0
 -- Assumes nothing.
+use Rattle.std.specs.Prelude.{None}
 use mathlib.Core.Path.{◌≡◌, refl, sym, ap, ap₂, ◌∙◌}
-use mathlib.Core.Option.{none}
 use mathlib.Core.List.{List, [], ◌∷◌, ◌++◌, append_assoc}
 use Prim.Native.Nat.{ℕ, zero, suc, ◌+◌, ◌-◌, ◌*◌, ◌%◌}
 use native.Mathlib.Nat.{add-zero, mul-add, mul_assoc, mul_comm}
@@ -61,7 +61,7 @@ last_bits w j m n e =
 
 -- the areas of some blocks between other bytes: nothing is left in their last byte
 pub last_clean : (front more : List ℕ) (before : List (List ℕ)) (block : List ℕ) (bits : ℕ) → bits ≡ block_width block * length block % 8
-    → overfull (front ++ (joined block_area (before ++ (block ∷ [])) ++ more)) (length front + length (joined block_area (before ++ (block ∷ []))) - 1) bits ≡ none
+    → overfull (front ++ (joined block_area (before ++ (block ∷ [])) ++ more)) (length front + length (joined block_area (before ++ (block ∷ []))) - 1) bits ≡ None
 unfolding joined block_area block_residuals
 last_clean front more before block bits is =
     let start = length (joined block_area before) in
@@ -70,7 +70,7 @@ last_clean front more before block bits is =
     let w = block_width block in
     let xs = residuals (trained block) block in
     let rows : length xs ≡ length block = residuals-length (trained block) block in
-    let bare : overfull s (length front + start + bytes_for (w * length xs) - 1) (w * length xs % 8) ≡ none =
+    let bare : overfull s (length front + start + bytes_for (w * length xs) - 1) (w * length xs % 8) ≡ None =
     overfull-packed s (length front + start) w xs _ (area_block before block [] front more) in
     let long : length areas ≡ start + bytes_for (w * length xs) =
     ap length (area_split before block []) ∙ omega (arith, length-append (joined block_area before) (packed w xs ++ []), length-append (packed w xs) [], length-packed w xs) in

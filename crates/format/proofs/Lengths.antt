@@ -2,8 +2,8 @@
 --     exact     Bitpacked and Linear
 --     near      Blockwise with gcd 1; `nine_met` has a column that takes all nine bytes, `nine_passed` one of a larger gcd that takes more
 -- Assumes nothing.
+use Rattle.std.specs.Prelude.{Some}
 use mathlib.Core.Path.{◌≡◌, refl, sym, ap, ◌∙◌, subst}
-use mathlib.Core.Option.{some}
 use mathlib.Core.List.{List, [], ◌∷◌, ◌++◌, map}
 use Prim.Native.Nat.{ℕ, zero, suc, ◌+◌, ◌-◌, ◌*◌, ◌/◌, ◌^◌, ◌≤◌, ◌<◌, suc-le-suc}
 use native.Mathlib.Nat.{not-suc-le-zero, le_of_suc-le-suc, zero-lt-suc, mul-le-mul_right, div-one}
@@ -119,12 +119,12 @@ blockwise-length s vs =
     omega (arith, length-append (spell_head s) (areas ++ (foot ++ num_bytes 4 (length foot))), length-append areas (foot ++ num_bytes 4 (length foot)), length-append foot (num_bytes 4 (length foot)), length-num_bytes 4 (length foot), shares bs)
 
 -- with gcd 1 nothing is thought to be saved
-plain_size : (s : ColumnStats) (vs : List ℕ) → s.gcd ≡ 1 → size_of 2 s vs ≡ some (4 + length (spell_head s) + block_sizes (blocks vs))
+plain_size : (s : ColumnStats) (vs : List ℕ) → s.gcd ≡ 1 → size_of 2 s vs ≡ Some (4 + length (spell_head s) + block_sizes (blocks vs))
 unfolding size_of
 plain_size s vs one =
     let whole = 4 + length (spell_head s) + block_sizes (blocks vs) in
     let none : whole - 0 ≡ whole = omega arith in
-    ap (λ (n : ℕ). some (whole - n)) (ap (λ (g : ℕ). saving g s.rows) one ∙ one_saves_nothing s.rows) ∙ ap some none
+    ap (λ (n : ℕ). Some (whole - n)) (ap (λ (g : ℕ). saving g s.rows) one ∙ one_saves_nothing s.rows) ∙ ap Some none
 
 -- the blocks of normalised values
 sizes-near : (vs : List ℕ) → (stats_of vs).gcd ≡ 1 → AllBelow (2 ^ 64) vs
@@ -137,7 +137,7 @@ sizes-near vs one each =
 
 -- ---- the theorems
 
-some_same : (a b : ℕ) → some a ≡ some b → a ≡ b
+some_same : (a b : ℕ) → Some a ≡ Some b → a ≡ b
 some_same a b e = cc
 
 -- what was written, by its code byte
@@ -173,7 +173,7 @@ lengths = (exact, trains_alike, near)
 abbrev dip : List ℕ
 dip = 100 ∷ 103 ∷ 300 ∷ []
 
-pub nine_met : (size_of 2 (stats_of dip) dip ≡ some 20) × (length (column_by 2 dip) ≡ 1 + 20 + 9)
+pub nine_met : (size_of 2 (stats_of dip) dip ≡ Some 20) × (length (column_by 2 dip) ≡ 1 + 20 + 9)
 unfolding size_of stats_of reduce fold_from gcd euclid spell_head spell spell_in blocks blocks_in block_sizes block_size spell_line trained rising height slope_of nearer residuals residuals_from line_at block_width block_residuals width bit_length bits_in saving exponent_of last_reached power_bounds reaches in_f32 nearest body blockwise joined block_area block_entry footer packed bytes_of rows_bits bits_of num_of num_bytes
 nine_met = (refl, refl)
 
@@ -181,6 +181,6 @@ nine_met = (refl, refl)
 abbrev steps : List ℕ
 steps = map (λ (k : ℕ). k * 2 ^ 16) (0 ∷ 1 ∷ 2 ∷ 3 ∷ 4 ∷ 5 ∷ 6 ∷ 7 ∷ [])
 
-pub nine_passed : (size_of 2 (stats_of steps) steps ≡ some 3) × (length (column_by 2 steps) ≡ 1 + 17)
+pub nine_passed : (size_of 2 (stats_of steps) steps ≡ Some 3) × (length (column_by 2 steps) ≡ 1 + 17)
 unfolding size_of stats_of reduce fold_from gcd euclid spell_head spell spell_in blocks blocks_in block_sizes block_size spell_line trained rising height slope_of nearer residuals residuals_from line_at block_width block_residuals width bit_length bits_in saving exponent_of last_reached power_bounds reaches in_f32 nearest body blockwise joined block_area block_entry footer packed bytes_of rows_bits bits_of num_of num_bytes
 nine_passed = (refl, refl)

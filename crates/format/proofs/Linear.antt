@@ -3,9 +3,9 @@
 --     linear_round                 what is written opens and comes back
 --     linear_size                  the size in the choice is the length of what is written
 -- Assumes nothing.
+use Rattle.std.specs.Prelude.{Some, None}
 use mathlib.Core.Path.{◌≡◌, refl, sym, ap, ◌∙◌}
 use mathlib.Core.Bool.{true}
-use mathlib.Core.Option.{none, some}
 use mathlib.Core.List.{List, [], ◌∷◌, ◌++◌, append-nil}
 use Prim.Native.Nat.{ℕ, ◌+◌, ◌-◌, ◌*◌, ◌/◌, ◌%◌, ◌^◌, ◌≤◌, ◌<◌}
 use native.Mathlib.Nat.{add-zero, mul_comm}
@@ -14,7 +14,6 @@ use lib.ListN.{length, take, drop, get_or, length-append, length-map}
 use borrow.Author.Tests.{le-leb, le-ltb}
 use Rattle.format.specs.declared.Codec.TheVariants.{Linear}
 use Rattle.format.specs.declared.Fields.{Fields}
-use Rattle.format.specs.declared.Spelling.TheVariants.{Shortest}
 use Rattle.format.specs.Outcome.{Outcome.value}
 use Rattle.format.specs.Word.{mod_add, mod_sub, bytes_for, AllBelow}
 use Rattle.format.specs.Packing.{legal, packed}
@@ -119,7 +118,7 @@ module _ (vs : List ℕ) where
   column_is = refl
 
   abbrev fields : Fields
-  fields = record { line = linear_line vs; bits = bits; next = start; spelling = Shortest }
+  fields = record { line = linear_line vs; bits = bits; next = start; longer = None }
 
   behind_line : drop start column ≡ area
   behind_line =
@@ -135,10 +134,10 @@ module _ (vs : List ℕ) where
     })
 
     -- nothing offends sheet 2
-    column_passes : strict column (linear_of (written_head vs) fields).column Shortest ≡ value tt
+    column_passes : strict column (linear_of (written_head vs) fields).column None ≡ value tt
     unfolding strict ending
     column_passes =
-        let full : overfull column (start + bytes_for (bits * length left) - 1) (bits * length left % 8) ≡ none =
+        let full : overfull column (start + bytes_for (bits * length left) - 1) (bits * length left % 8) ≡ None =
         overfull-packed column start bits left [] (behind_line ∙ sym (append-nil area)) in
         clean_column column (linear_of (written_head vs) fields).column _
         (ap (λ (n : ℕ). overfull column (start + bytes_for (bits * n) - 1) (bits * n % 8)) (sym (residuals-length (linear_line vs) vs)) ∙ full)
@@ -174,8 +173,8 @@ linear_round vs each few applies = record {
 }
 
 -- its size in the choice is the length of what it writes
-pub linear_size : (vs : List ℕ) → 512 ≤ length vs → size_of 1 (stats_of vs) vs ≡ some (length (body 1 (stats_of vs) vs))
+pub linear_size : (vs : List ℕ) → 512 ≤ length vs → size_of 1 (stats_of vs) vs ≡ Some (length (body 1 (stats_of vs) vs))
 unfolding size_of stats_of
 linear_size vs h =
     let long : length (head_bytes vs) + length (line_bytes vs) + 1 + size vs ≡ length (body 1 (stats_of vs) vs) = omega (arith, column_length vs, ap length (column_is vs)) in
-    rw (le-ltb (length vs) 512 h) (ap some long)
+    rw (le-ltb (length vs) 512 h) (ap Some long)

@@ -3,9 +3,9 @@
 --     reserved, roomy     by any: no column is longer, and no output of that length too short
 --     capped, planned     where Bitpacked is listed: the estimate of what is chosen, and what is written with gcd 1
 -- Assumes nothing.
+use Rattle.std.specs.Prelude.{Some}
 use mathlib.Core.Path.{◌≡◌, refl, sym, ap, ◌∙◌, subst}
 use mathlib.Core.Logic.{⊎_elim}
-use mathlib.Core.Option.{some}
 use mathlib.Core.List.{List, [], ◌∷◌, ◌++◌, map}
 use Prim.Native.Nat.{ℕ, zero, suc, ◌+◌, ◌*◌, ◌≤◌, ◌<◌}
 use native.Mathlib.Nat.{le_trans, mul-le-mul_right}
@@ -94,7 +94,7 @@ chosen_of vs cs bytes room e = go (verdict vs cs) (sym (written_said vs cs room 
     go (writes few k c) f = by_demand (leb (length (column_by c.best.codec vs)) room) 4 _ _ f λ enough f. (c, sym (value_same f))
 
 -- Bitpacked's own size
-bitpacked_capped : (vs : List ℕ) → (n : ℕ) × (size_of 0 (stats_of vs) vs ≡ some n) × (1 + n ≤ most_bytes 0 (length vs))
+bitpacked_capped : (vs : List ℕ) → (n : ℕ) × (size_of 0 (stats_of vs) vs ≡ Some n) × (1 + n ≤ most_bytes 0 (length vs))
 unfolding size_of stats_of most_bytes
 bitpacked_capped vs = (_, refl, omega (arith, head_few (stats_of vs), area_most (count_of (stats_of vs)) (length vs)))
 

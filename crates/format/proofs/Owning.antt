@@ -6,6 +6,8 @@
 --     all_owned
 --     owners_filled                                   a lent table that was filled names the same rows
 -- Assumes nothing.
+use Rattle.std.specs.Option.{option_or}
+use Rattle.std.specs.Prelude.{Option, Some, None}
 use Prim.Native.Nat.{ℕ, zero, suc, ◌+◌, ◌-◌, ◌*◌, ◌/◌, ◌%◌, ◌≤◌, ◌<◌, min, max}
 use mathlib.Core.Path.{◌≡◌, refl, ap, ◌∙◌, subst}
 use mathlib.Core.Bool.{Bool, true, false, ◌&&◌}
@@ -23,15 +25,13 @@ use Rattle.format.specs.declared.Block.{Block}
 use Rattle.format.specs.declared.Column.{Column}
 use Rattle.format.specs.declared.Fields.{Fields}
 use Rattle.format.specs.declared.Head.{Head}
-use Rattle.format.specs.declared.Owners.{Owners}
-use Rattle.format.specs.declared.Owners.TheVariants.{Rows, NoRow}
 use Rattle.format.specs.Outcome.{Outcome.value, pick}
 use Rattle.format.specs.Word.{bytes_for}
 use Rattle.format.specs.Packing.{width, legal}
 use Rattle.format.specs.Bodies.{block_count}
 use Rattle.format.specs.Opening.{Loaded, Table, opened}
 use Rattle.format.specs.Reading.{place_in, block_at}
-use Rattle.format.specs.Parts.{Run, run_owners, block_run, or_else, block_owners, area_owners, owners_at}
+use Rattle.format.specs.Parts.{Run, run_owners, block_run, block_owners, area_owners, owners_at}
 use Rattle.format.specs.Demands.{filled_by}
 use Rattle.format.specs.Blame.{Named, Owned, AllOwned}
 use Rattle.format.proofs.Tests.{and_left, and_right}
@@ -82,7 +82,7 @@ unfolding run_owners
 run_names u j r named = go (legal u.bits && leb u.start j && ltb (8 * (j - u.start)) (u.rows * u.bits)) refl named
   where
     go : (t : Bool) → (legal u.bits && leb u.start j && ltb (8 * (j - u.start)) (u.rows * u.bits)) ≡ t
-        → Named (pick t (Rows (u.first + 8 * (j - u.start) / u.bits) (u.first + min ((8 * (j - u.start) + 7) / u.bits) (u.rows - 1))) NoRow) r → RunNames u j r
+        → Named (pick t (Some (u.first + 8 * (j - u.start) / u.bits, u.first + min ((8 * (j - u.start) + 7) / u.bits) (u.rows - 1))) None) r → RunNames u j r
     go false e named = absurd named
     go true e named =
         let rest : (legal u.bits && leb u.start j) ≡ true = and_left (legal u.bits && leb u.start j) _ e in
@@ -136,14 +136,14 @@ run_some u j lawful low high =
     (q, few, subst (λ (k : ℕ). Named (run_owners u k) (u.first + q)) same (owns_run u 0 j q lawful few (max (8 * j) (8 * (0 + u.start) + q * w), omega arith, omega (arith, here.0, here.1), (omega arith, omega (arith, here.0, here.1)))).1)
 
 -- a byte behind it has none
-pub run_none : (u : Run) (j : ℕ) → u.start + bytes_for (u.bits * u.rows) ≤ j → run_owners u j ≡ NoRow
+pub run_none : (u : Run) (j : ℕ) → u.start + bytes_for (u.bits * u.rows) ≤ j → run_owners u j ≡ None
 unfolding run_owners
 run_none u j high =
     let w = u.bits in
     let swap : u.rows * w ≡ w * u.rows = mul_comm u.rows w in
     rw (le-ltb (8 * (j - u.start)) (u.rows * w) (omega arith)) (none (legal w) (leb u.start j))
   where
-    none : (a b : Bool) → pick (a && b && false) (Rows (u.first + 8 * (j - u.start) / u.bits) (u.first + min ((8 * (j - u.start) + 7) / u.bits) (u.rows - 1))) NoRow ≡ NoRow
+    none : (a b : Bool) → pick {A = Option (ℕ × ℕ)} (a && b && false) (Some (u.first + 8 * (j - u.start) / u.bits, u.first + min ((8 * (j - u.start) + 7) / u.bits) (u.rows - 1))) None ≡ None
     none true true = refl
     none true false = refl
     none false true = refl
@@ -205,21 +205,21 @@ unfolding block_owners
 block_names_lem t rows j r zero k named = absurd named
 block_names_lem t rows j r (suc n) k named = go (run_owners (block_run t rows k) j) refl (λ later. block_names_lem t rows j r n (suc k) later) named
   where
-    go : (a : Owners) → run_owners (block_run t rows k) j ≡ a
+    go : (a : Option (ℕ × ℕ)) → run_owners (block_run t rows k) j ≡ a
         → (Named (block_owners t rows (suc k) n j) r → (m : ℕ) × (suc k ≤ m) × (m < suc k + n) × Named (run_owners (block_run t rows m) j) r)
-        → Named (or_else a (block_owners t rows (suc k) n j)) r → (m : ℕ) × (k ≤ m) × (m < k + suc n) × Named (run_owners (block_run t rows m) j) r
-    go (Rows f l) e rest named = (k, omega arith, omega arith, rw e named)
-    go NoRow e rest named =
+        → Named (option_or a (block_owners t rows (suc k) n j)) r → (m : ℕ) × (k ≤ m) × (m < k + suc n) × Named (run_owners (block_run t rows m) j) r
+    go (Some (f, l)) e rest named = (k, omega arith, omega arith, rw e named)
+    go None e rest named =
         let later = rest named in
         (later.0, omega (arith, later.1), omega (arith, later.2), later.3)
 
 -- what one answer names, it names before another too
-named_first : (a b : Owners) (r : ℕ) → Named a r → Named (or_else a b) r
-named_first (Rows f l) b r named = named
-named_first NoRow b r named = absurd named
+named_first : (a b : Option (ℕ × ℕ)) (r : ℕ) → Named a r → Named (option_or a b) r
+named_first (Some (f, l)) b r named = named
+named_first None b r named = absurd named
 
 -- the rows of the first block that names any are named by all
-names_block : (t : List Block) (rows j r m n k : ℕ) → k ≤ m → m < k + n → ((b : ℕ) → b < m → run_owners (block_run t rows b) j ≡ NoRow)
+names_block : (t : List Block) (rows j r m n k : ℕ) → k ≤ m → m < k + n → ((b : ℕ) → b < m → run_owners (block_run t rows b) j ≡ None)
     → Named (run_owners (block_run t rows m) j) r → Named (block_owners t rows k n j) r
 unfolding block_owners
 names_block t rows j r m zero k low high none named = absurd (omega arith)
@@ -233,7 +233,7 @@ names_block t rows j r m (suc n) k low high none named =
 
 module _ {s : List ℕ} {at rows : ℕ} {t : Table} (b : BlocksRead (block_count rows) s at 0 rows t) where
   -- blocks before that of a byte name none
-  none_before : (m j : ℕ) → m < block_count rows → (block_at t.blocks m).start ≤ j → (e : ℕ) → e < m → run_owners (block_run t.blocks rows e) j ≡ NoRow
+  none_before : (m j : ℕ) → m < block_count rows → (block_at t.blocks m).start ≤ j → (e : ℕ) → e < m → run_owners (block_run t.blocks rows e) j ≡ None
   none_before m j h low e before = run_none (block_run t.blocks rows e) j (omega (arith, blocks_order b e m before h))
 
   -- a byte of the area lies in a block
@@ -291,7 +291,7 @@ module _ {s : List ℕ} {at rows : ℕ} {t : Table} (b : BlocksRead (block_count
 
 -- ---- what opens
 
-owners_before : (col : Column) (t : List Block) (i : ℕ) → i < col.start → owners_at col t i ≡ NoRow
+owners_before : (col : Column) (t : List Block) (i : ℕ) → i < col.start → owners_at col t i ≡ None
 unfolding owners_at
 owners_before col t i h = rw (lt-leb col.start i h)
 
@@ -343,8 +343,8 @@ blocks_alike : (t u : List Block) (rows j n k : ℕ) → ((b : ℕ) → b < k + 
 unfolding block_owners
 blocks_alike t u rows j zero k same = refl
 blocks_alike t u rows j (suc n) k same =
-    ap (λ (b : Block). or_else (run_owners (record { start = b.start; bits = b.bits; first = 512 * k; rows = min (rows - 512 * k) 512 }) j) (block_owners t rows (suc k) n j)) (same k (omega arith))
-    ∙ ap (λ (later : Owners). or_else (run_owners (block_run u rows k) j) later) (blocks_alike t u rows j n (suc k) (λ (b : ℕ) (h : b < suc k + n). same b (omega arith)))
+    ap (λ (b : Block). option_or (run_owners (record { start = b.start; bits = b.bits; first = 512 * k; rows = min (rows - 512 * k) 512 }) j) (block_owners t rows (suc k) n j)) (same k (omega arith))
+    ∙ ap (λ (later : Option (ℕ × ℕ)). option_or (run_owners (block_run u rows k) j) later) (blocks_alike t u rows j n (suc k) (λ (b : ℕ) (h : b < suc k + n). same b (omega arith)))
 
 -- where a lent table that was filled holds a column's blocks, it names the rows that the opening's own blocks name
 pub owners_filled : (s : List ℕ) (room : ℕ) (o : Loaded) → opened s room ≡ value o → (table : List Block) → room ≤ length table → (i : ℕ)
@@ -356,7 +356,7 @@ owners_filled s room o e table enough i =
     (λ (h : Head) (g : Fields) (f : OpensLinear s h g). refl)
     (λ (h : Head) (t : Table) (f : OpensBlockwise s h room t).
     let b = blocks_read (block_count h.rows) (take (footer_end s) s) (footer_start s) 0 h.rows t f.blocks in
-    ap (λ (named : Owners). pick (leb h.next i) named NoRow)
+    ap (λ (named : Option (ℕ × ℕ)). pick (leb h.next i) named None)
     (blocks_alike (sets table 0 t.blocks) t.blocks h.rows (i - h.next) (block_count h.rows) 0
     (λ (k : ℕ) (below : k < 0 + block_count h.rows). filled_block table t.blocks k (omega (arith, b.long, f.enough)) (omega (arith, b.long)))))
     o e

@@ -1,13 +1,12 @@
 -- The parts of the worked columns, byte by byte; columns with bytes behind the area and left over in the footer; the rows of bytes. One statement over each table.
 -- Assumes nothing.
+use Rattle.std.specs.Prelude.{Option, Some, None}
 use Prim.Native.Nat.{ℕ, ◌-◌, ◌^◌}
 use mathlib.Core.Path.{◌≡◌, refl}
 use mathlib.Core.List.{List, [], ◌∷◌, map}
 use Rattle.format.specs.declared.PartName.{PartName}
 use Rattle.format.specs.declared.PartName.TheVariants.{Code, Minimum, Gcd, Count, Rows, Slope, Intercept, Width, Area, Behind, BlockSlope, BlockIntercept, BlockWidth, Spare, FooterLength}
 use Rattle.format.specs.declared.Part.{Part}
-use Rattle.format.specs.declared.Owners.{Owners}
-use Rattle.format.specs.declared.Owners.TheVariants.{Rows as OwnRows, NoRow}
 use Rattle.format.specs.Outcome.{Outcome, Outcome.value, Outcome.refusal}
 use Rattle.format.specs.Varint.{scan, read_varint}
 use Rattle.format.specs.Packing.{bytes_num, width, bit_length, bits_in, unpack, rows_bits, bits_of, num_of}
@@ -89,15 +88,15 @@ parts_named = refl
 
 -- ---- the rows of bytes
 
-abbrev pub owners_in : Outcome Loaded → (i : ℕ) → Owners
+abbrev pub owners_in : Outcome Loaded → (i : ℕ) → Option (ℕ × ℕ)
 owners_in (value o) i = owners_at o.column o.table i
-owners_in (refusal number also) i = NoRow
+owners_in (refusal number also) i = None
 
 -- bytes with their rows
 pub record Owning : Type 0 where
   pub column : List ℕ
   pub byte : ℕ
-  pub own : Owners
+  pub own : Option (ℕ × ℕ)
 
 -- four rows of five bits
 abbrev pub fives : List ℕ
@@ -105,17 +104,17 @@ fives = 0x00 ∷ 0x80 ∷ 0x81 ∷ 0x9F ∷ 0x84 ∷ 0x00 ∷ 0x00 ∷ 0x00 ∷ 
 
 abbrev pub ownings : List Owning
 ownings =
-    record { column = p9; byte = 5; own = OwnRows 0 2 }
+    record { column = p9; byte = 5; own = Some (0, 2) }
     -- P10: all three rows have a bit in byte 5; none has one in the byte before it or behind
-    ∷ record { column = p10 0x08; byte = 4; own = NoRow }
-    ∷ record { column = p10 0x08; byte = 5; own = OwnRows 0 2 }
-    ∷ record { column = p10 0x08; byte = 6; own = NoRow }
+    ∷ record { column = p10 0x08; byte = 4; own = None }
+    ∷ record { column = p10 0x08; byte = 5; own = Some (0, 2) }
+    ∷ record { column = p10 0x08; byte = 6; own = None }
     -- rows that reach over the end of a byte are named for both
-    ∷ record { column = fives; byte = 5; own = OwnRows 0 1 }
-    ∷ record { column = fives; byte = 6; own = OwnRows 1 3 }
-    ∷ record { column = fives; byte = 7; own = OwnRows 3 3 }
+    ∷ record { column = fives; byte = 5; own = Some (0, 1) }
+    ∷ record { column = fives; byte = 6; own = Some (1, 3) }
+    ∷ record { column = fives; byte = 7; own = Some (3, 3) }
     -- a byte behind the area
-    ∷ record { column = fives; byte = 8; own = NoRow }
+    ∷ record { column = fives; byte = 8; own = None }
     ∷ []
 
 pub rows_named : map (λ (c : Owning). owners_in (opened c.column 9) c.byte) ownings ≡ map (λ (c : Owning). c.own) ownings

@@ -6,11 +6,11 @@
 --     Marks, opened_marks                             where the parts of a column that opens end
 --     all_parted
 -- Assumes nothing.
+use Rattle.std.specs.Prelude.{Some}
 use Prim.Native.Nat.{ℕ, zero, suc, ◌+◌, ◌-◌, ◌*◌, ◌^◌, ◌≤◌, ◌<◌, min}
 use mathlib.Core.Path.{◌≡◌, refl, sym, ap, ◌∙◌, subst}
 use mathlib.Core.Bool.{Bool, true, false}
 use mathlib.Core.Logic.{⊎_elim}
-use mathlib.Core.Option.{some}
 use mathlib.Core.List.{List, [], ◌∷◌, ◌++◌}
 use native.Mathlib.Omega.{arith}
 use lib.Dec.{ltb, leb}
@@ -92,7 +92,7 @@ module _ (s : List ℕ) (col : Column) where
       rw (le-ltb i (part_end p) (omega (arith, end_late (part_end p) ns))) (part_skip (part_end p) ns ms i h)
 
   -- the first part is taken where it ends behind it
-  part_here_lem : (at : ℕ) (n : PartName) (ns : List PartName) (i : ℕ) → i < part_end (part_here s col n at) → part_in (parts_from s col at (n ∷ ns)) i ≡ some (part_here s col n at)
+  part_here_lem : (at : ℕ) (n : PartName) (ns : List PartName) (i : ℕ) → i < part_end (part_here s col n at) → part_in (parts_from s col at (n ∷ ns)) i ≡ Some (part_here s col n at)
   unfolding parts_from part_in
   part_here_lem at n ns i h = rw (lt-ltb i (part_end (part_here s col n at)) h)
 
@@ -104,7 +104,7 @@ module _ (s : List ℕ) (col : Column) where
 
   -- a byte before the end is held by just one part, the one that is found
   pub part_found : (at : ℕ) (ns : List PartName) (i : ℕ) → at ≤ i → i < end_from s col at ns
-      → (p : Part) × (part_in (parts_from s col at ns) i ≡ some p) × (holding (parts_from s col at ns) i ≡ p ∷ [])
+      → (p : Part) × (part_in (parts_from s col at ns) i ≡ Some p) × (holding (parts_from s col at ns) i ≡ p ∷ [])
   unfolding parts_from part_in holding end_from
   part_found at [] i low high = absurd (omega arith)
   part_found at (n ∷ ns) i low high =
@@ -291,15 +291,15 @@ module _ (s : List ℕ) (col : Column) (m : Marks s col) where
       part_skip s col 0 (names_before col.codec) (Area ∷ Behind ∷ names_footer col.codec col.rows) i (omega (arith, m.before))
       ∙ ap (λ (k : ℕ). part_in (parts_from s col k (Area ∷ Behind ∷ names_footer col.codec col.rows)) i) m.before
 
-  pub area_part : (i : ℕ) → col.start ≤ i → i < col.start + col.size → part_at s col i ≡ some (record { name = Area; first = col.start; bytes = col.size; value = 0 })
+  pub area_part : (i : ℕ) → col.start ≤ i → i < col.start + col.size → part_at s col i ≡ Some (record { name = Area; first = col.start; bytes = col.size; value = 0 })
   unfolding spelled
   area_part i low high =
       let long : (part_here s col Area col.start).bytes ≡ col.size = omega (arith, area_to) in
       from_area i low ∙ part_here_lem s col col.start Area (Behind ∷ names_footer col.codec col.rows) i (omega (arith, area_to))
-      ∙ ap (λ (n : ℕ). some (record { name = Area; first = col.start; bytes = n; value = 0 })) long
+      ∙ ap (λ (n : ℕ). Some (record { name = Area; first = col.start; bytes = n; value = 0 })) long
 
   pub behind_part : (i n : ℕ) → col.start + col.size + n ≡ behind_end col.codec s → col.start + col.size ≤ i → i < behind_end col.codec s
-      → part_at s col i ≡ some (record { name = Behind; first = col.start + col.size; bytes = n; value = 0 })
+      → part_at s col i ≡ Some (record { name = Behind; first = col.start + col.size; bytes = n; value = 0 })
   unfolding end_from spelled
   behind_part i n much low high =
       let long : (part_here s col Behind (col.start + col.size)).bytes ≡ n = omega (arith, behind_to) in
@@ -307,7 +307,7 @@ module _ (s : List ℕ) (col : Column) (m : Marks s col) where
       ∙ part_skip s col col.start (Area ∷ []) (Behind ∷ names_footer col.codec col.rows) i (omega (arith, area_to))
       ∙ ap (λ (k : ℕ). part_in (parts_from s col k (Behind ∷ names_footer col.codec col.rows)) i) area_to
       ∙ part_here_lem s col (col.start + col.size) Behind (names_footer col.codec col.rows) i (omega (arith, behind_to))
-      ∙ ap (λ (k : ℕ). some (record { name = Behind; first = col.start + col.size; bytes = k; value = 0 })) long
+      ∙ ap (λ (k : ℕ). Some (record { name = Behind; first = col.start + col.size; bytes = k; value = 0 })) long
 
 pub all_parted : AllParted
 all_parted s room o e =

@@ -1,9 +1,10 @@
 -- Cases of recordings, computed: one for each side of each rule.
 -- Assumes nothing.
+use Rattle.format.specs.declared.Report.{Report}
+use Rattle.std.specs.Prelude.{Some, None}
 use Prim.Native.Nat.{ℕ, zero, suc}
 use mathlib.Core.Path.{◌≡◌, refl}
 use mathlib.Core.Bool.{true, false}
-use mathlib.Core.Option.{none, some}
 use mathlib.Core.List.{List, [], ◌∷◌, ◌++◌, map}
 use Rattle.format.specs.Outcome.{Outcome, Outcome.value, Outcome.refusal}
 use Rattle.format.specs.declared.Codec.TheVariants.{Bitpacked}
@@ -12,7 +13,7 @@ use Rattle.format.specs.Packing.{bytes_num, num_bytes, unpack, rows_bits, bits_o
 use Rattle.format.specs.Reading.{row_at, row_in, place_in, column_fits, row_fits, fits, packed_of, value_in}
 use Rattle.format.specs.Lookup.{all_read, rows_passing}
 use Rattle.format.specs.Demands.{reads_as}
-use Rattle.format.specs.Replaying.{number_at, header_of, record_at, listed_at, listed_from, placed, is_recording, same_rows, found_are, agrees, first_differing, Report, replayed}
+use Rattle.format.specs.Replaying.{number_at, header_of, record_at, listed_at, listed_from, placed, is_recording, same_rows, found_are, agrees, first_differing, replayed}
 
 unfoldable pub zeros : ℕ → List ℕ
 zeros zero = []
@@ -45,8 +46,8 @@ pub replays : map over (
     ∷ (header 1 16 2 48 ++ (item 10 25 0 9 0 1 ++ (num_bytes 4 0 ++ num_bytes 4 2)))
     ∷ (header 2 16 2 80 ++ (item 0 9 0 3 2 0 ++ (item 10 25 1 3 0 1 ++ (num_bytes 4 0 ++ num_bytes 4 2))))
     ∷ zeros 15 ∷ [])
-    ≡ value (record { differing = none; run = 1 }) ∷ value (record { differing = some 0; run = 1 }) ∷ value (record { differing = some 0; run = 1 })
-    ∷ value (record { differing = some 1; run = 2 }) ∷ refusal 19 [] ∷ []
+    ≡ value (record { differing = None; run = 1 }) ∷ value (record { differing = Some 0; run = 1 }) ∷ value (record { differing = Some 0; run = 1 })
+    ∷ value (record { differing = Some 1; run = 2 }) ∷ refusal 19 [] ∷ []
 unfolding zeros num_bytes bytes_num number_at header_of record_at listed_at listed_from placed is_recording same_rows found_are agrees first_differing all_read rows_passing replayed
 replays = refl
 
@@ -66,7 +67,7 @@ pub window_replays : map through (
     ∷ (header 1 16 2 48 ++ (item 20 30 0 9 0 2 ++ (num_bytes 4 0 ++ num_bytes 4 1)))
     ∷ (header 1 16 2 48 ++ (item 20 30 0 9 0 2 ++ (num_bytes 4 1 ++ num_bytes 4 2)))
     ∷ zeros 15 ∷ [])
-    ≡ value (record { differing = none; run = 1 }) ∷ value (record { differing = some 0; run = 1 }) ∷ value (record { differing = none; run = 1 })
-    ∷ value (record { differing = none; run = 1 }) ∷ value (record { differing = some 0; run = 1 }) ∷ refusal 19 [] ∷ []
+    ≡ value (record { differing = None; run = 1 }) ∷ value (record { differing = Some 0; run = 1 }) ∷ value (record { differing = None; run = 1 })
+    ∷ value (record { differing = None; run = 1 }) ∷ value (record { differing = Some 0; run = 1 }) ∷ refusal 19 [] ∷ []
 unfolding zeros num_bytes bytes_num number_at header_of record_at listed_at listed_from placed is_recording same_rows found_are agrees first_differing all_read rows_passing replayed row_in place_in fits column_fits row_fits packed_of value_in unpack rows_bits bits_of num_of width bit_length bits_in
 window_replays = refl

@@ -8,11 +8,12 @@
 --     differs_first                             else the first record whose lookup is not is told, and those before it agree
 --     refused_exactly                           19 exactly where the recording is none
 -- Assumes nothing.
+use Rattle.format.specs.declared.Report.{Report}
+use Rattle.std.specs.Prelude.{Option, Some, None}
 use Prim.Native.Nat.{ℕ, zero, suc, ◌+◌, ◌-◌, ◌*◌, ◌≤◌, ◌<◌, min}
 use mathlib.Core.Path.{◌≡◌, refl, sym, ap, ◌∙◌}
 use mathlib.Core.Bool.{Bool, true, false, ◌&&◌}
 use mathlib.Core.Logic.{◌↔◌, ◌⊎◌, inl, inr}
-use mathlib.Core.Option.{Option, none, some}
 use mathlib.Core.List.{List, [], ◌∷◌}
 use native.Mathlib.Nat.{eq-or-lt_of_le}
 use native.Mathlib.Omega.{arith}
@@ -24,7 +25,7 @@ use Rattle.format.specs.declared.Recording.{Recording}
 use Rattle.format.specs.Outcome.{Outcome, Outcome.value, Outcome.refusal, ◌>>◌, demand, pick}
 use Rattle.format.specs.Packing.{bytes_num}
 use Rattle.format.specs.Lookup.{all_read, rows_passing, within, looked_up}
-use Rattle.format.specs.Replaying.{number_at, header_of, record_at, listed_from, is_recording, same_rows, are_rows, found_are, agrees, first_differing, Report, reported, replayed}
+use Rattle.format.specs.Replaying.{number_at, header_of, record_at, listed_from, is_recording, same_rows, are_rows, found_are, agrees, first_differing, reported, replayed}
 use Rattle.format.proofs.Outcomes.{not_value, value_same}
 
 -- ---- numbers
@@ -93,18 +94,18 @@ module _ (read : ℕ → Outcome ℕ) (test : ℕ → Bool) (r n : ℕ) (recorde
 -- ---- the first that differs
 
 module _ (agree : ℕ → Bool) where
-  pub none_differs : (k n : ℕ) → ((i : ℕ) → k ≤ i → i < k + n → agree i ≡ true) → first_differing agree k n ≡ none
+  pub none_differs : (k n : ℕ) → ((i : ℕ) → k ≤ i → i < k + n → agree i ≡ true) → first_differing agree k n ≡ None
   unfolding first_differing
   none_differs k zero h = refl
   none_differs k (suc n) h = rw (h k (omega arith) (omega arith)) (none_differs (suc k) n (λ i low high. h i (omega arith) (omega arith)))
 
-  pub differs_none : (k n : ℕ) → first_differing agree k n ≡ none → (i : ℕ) → k ≤ i → i < k + n → agree i ≡ true
+  pub differs_none : (k n : ℕ) → first_differing agree k n ≡ None → (i : ℕ) → k ≤ i → i < k + n → agree i ≡ true
   unfolding first_differing
   differs_none k zero e i low high = absurd (omega arith)
   differs_none k (suc n) e i low high = by (agree k) refl (λ f h. differs_none (suc k) n f i h (omega arith)) e (eq-or-lt_of_le low)
     where
-      by : (t : Bool) → agree k ≡ t → (first_differing agree (suc k) n ≡ none → k < i → agree i ≡ true)
-          → pick t (first_differing agree (suc k) n) (some k) ≡ none → (k ≡ i) ⊎ (k < i) → agree i ≡ true
+      by : (t : Bool) → agree k ≡ t → (first_differing agree (suc k) n ≡ None → k < i → agree i ≡ true)
+          → pick t (first_differing agree (suc k) n) (Some k) ≡ None → (k ≡ i) ⊎ (k < i) → agree i ≡ true
       by true a later e (inl is) = ap agree (sym is) ∙ a
       by true a later e (inr h) = later e h
       by false a later e c = cc
@@ -116,7 +117,7 @@ module _ (agree : ℕ → Bool) where
     pub differs : agree j ≡ false
     pub before : (i : ℕ) → k ≤ i → i < j → agree i ≡ true
 
-  pub first_differs : (k n j : ℕ) → first_differing agree k n ≡ some j → First k n j
+  pub first_differs : (k n j : ℕ) → first_differing agree k n ≡ Some j → First k n j
   unfolding first_differing
   first_differs k zero j e =
       let z : ◌≡◌ {A = ℕ} 0 1 = cc in
@@ -127,8 +128,8 @@ module _ (agree : ℕ → Bool) where
       earlier a f i high (inl is) = ap agree (sym is) ∙ a
       earlier a f i high (inr h) = f.before i h high
 
-      by : (t : Bool) → agree k ≡ t → (first_differing agree (suc k) n ≡ some j → First (suc k) n j)
-          → pick t (first_differing agree (suc k) n) (some k) ≡ some j → First k (suc n) j
+      by : (t : Bool) → agree k ≡ t → (first_differing agree (suc k) n ≡ Some j → First (suc k) n j)
+          → pick t (first_differing agree (suc k) n) (Some k) ≡ Some j → First k (suc n) j
       by true a later e =
           let f = later e in
           record {
@@ -156,20 +157,20 @@ found_only (refusal number also) found recorded room e = absurd (not_value e)
 -- what a report says of the first that differs
 differing_of : Outcome Report → Option ℕ
 differing_of (value p) = p.differing
-differing_of (refusal number also) = none
+differing_of (refusal number also) = None
 
-none_told : (n : ℕ) (o : Option ℕ) → differing_of (value (reported n o)) ≡ none → o ≡ none
+none_told : (n : ℕ) (o : Option ℕ) → differing_of (value (reported n o)) ≡ None → o ≡ None
 unfolding differing_of
-none_told n none e = refl
-none_told n (some k) e = cc
+none_told n None e = refl
+none_told n (Some k) e = cc
 
-some_told : (n : ℕ) (o : Option ℕ) (j run : ℕ) → reported n o ≡ record { differing = some j; run = run } → (o ≡ some j) × (run ≡ j + 1)
-some_told n none j run e =
-    let z : none ≡ some j = ap (λ (p : Report). p.differing) e in
+some_told : (n : ℕ) (o : Option ℕ) (j run : ℕ) → reported n o ≡ record { differing = Some j; run = run } → (o ≡ Some j) × (run ≡ j + 1)
+some_told n None j run e =
+    let z : None ≡ Some j = ap (λ (p : Report). p.differing) e in
     let y : ◌≡◌ {A = ℕ} 0 1 = cc in
     absurd (omega arith)
-some_told n (some k) j run e =
-    let first : some k ≡ some j = ap (λ (p : Report). p.differing) e in
+some_told n (Some k) j run e =
+    let first : Some k ≡ Some j = ap (λ (p : Report). p.differing) e in
     let is : k ≡ j = cc in
     (first, sym (ap (λ (p : Report). p.run) e) ∙ ap (λ (i : ℕ). i + 1) is)
 
@@ -201,7 +202,7 @@ module _ (read : ℕ → Outcome ℕ) (rows : ℕ) (s : List ℕ) where
 
   -- all agree exactly when every record's lookup is exactly its recorded rows
   pub all_agree : is_recording s ≡ true
-      → (replayed read rows s ≡ value (record { differing = none; run = (header_of s).records })) ↔ ((k : ℕ) → k < (header_of s).records → FindsRecorded k)
+      → (replayed read rows s ≡ value (record { differing = None; run = (header_of s).records })) ↔ ((k : ℕ) → k < (header_of s).records → FindsRecorded k)
   unfolding replayed differing_of
   all_agree is =
       rw is (
@@ -210,12 +211,12 @@ module _ (read : ℕ → Outcome ℕ) (rows : ℕ) (s : List ℕ) where
       )
 
   -- else the first record whose lookup is not is told, with those run: it and those before it, which agree
-  pub differs_first : (j run : ℕ) → replayed read rows s ≡ value (record { differing = some j; run = run })
+  pub differs_first : (j run : ℕ) → replayed read rows s ≡ value (record { differing = Some j; run = run })
       → First (agrees read rows (header_of s) s) 0 (header_of s).records j × (run ≡ j + 1)
   unfolding replayed
   differs_first j run e = by (is_recording s) e
     where
-      by : (t : Bool) → (demand t 19 [] >> value (reported (header_of s).records (first_differing (agrees read rows (header_of s) s) 0 (header_of s).records))) ≡ value (record { differing = some j; run = run })
+      by : (t : Bool) → (demand t 19 [] >> value (reported (header_of s).records (first_differing (agrees read rows (header_of s) s) 0 (header_of s).records))) ≡ value (record { differing = Some j; run = run })
           → First (agrees read rows (header_of s) s) 0 (header_of s).records j × (run ≡ j + 1)
       by true e =
           let told = some_told (header_of s).records (first_differing (agrees read rows (header_of s) s) 0 (header_of s).records) j run (value_same e) in

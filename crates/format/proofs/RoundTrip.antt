@@ -3,13 +3,13 @@
 --     begins                             the code byte and the head that a list is written with
 --     window_back, gives_back            so a window, and the whole column, gives back every row, through any table with room, and every lookup
 -- Assumes nothing.
+use Rattle.std.specs.Prelude.{None}
 use mathlib.Core.Path.{◌≡◌, refl, sym, ap, ◌∙◌, subst}
 use mathlib.Core.List.{List, ◌∷◌, ◌++◌}
 use Prim.Native.Nat.{ℕ, ◌+◌, ◌/◌, ◌^◌, ◌≤◌, ◌<◌}
 use native.Mathlib.Omega.{arith}
 use lib.ListN.{length}
 use Rattle.format.specs.declared.Block.{Block}
-use Rattle.format.specs.declared.Spelling.TheVariants.{Shortest}
 use Rattle.format.specs.declared.Window.{Window}
 use Rattle.format.specs.Outcome.{Outcome.value}
 use Rattle.format.specs.Word.{AllBelow}
@@ -32,8 +32,8 @@ pub record Restores (codec : ℕ) (vs : List ℕ) : Type 0 where
   pub loaded : Loaded
   pub opens : (room : ℕ) → block_count (length vs) ≤ room → opened (column_by codec vs) room ≡ value loaded
   pub count : loaded.column.rows ≡ length vs
-  pub shortest : loaded.spelling ≡ Shortest
-  pub passes : strict (column_by codec vs) loaded.column Shortest ≡ value tt
+  pub shortest : loaded.longer ≡ None
+  pub passes : strict (column_by codec vs) loaded.column None ≡ value tt
   pub values : (r : ℕ) → r < length vs
       → value_in loaded.column.codec loaded.column (block_at loaded.table (r / 512)) r (packed_of loaded.column (block_at loaded.table (r / 512)) (column_by codec vs) r) ≡ reads_as vs r
 

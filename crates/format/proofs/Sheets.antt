@@ -5,8 +5,8 @@
 --     unclaimed_none, overfull_none, overfull-packed, clean_column
 --                                        what a column without offending bytes has
 -- Assumes nothing.
+use Rattle.std.specs.Prelude.{Option, Some, None}
 use mathlib.Core.Path.{◌≡◌, refl, ap, ◌∙◌}
-use mathlib.Core.Option.{Option, none, some}
 use mathlib.Core.Logic.{◌⊎◌, inl, inr, ⊎_elim}
 use mathlib.Core.List.{List, [], ◌∷◌, ◌++◌}
 use Prim.Native.Nat.{ℕ, zero, suc, ◌+◌, ◌-◌, ◌*◌, ◌%◌, ◌^◌, ◌≤◌, ◌<◌, min}
@@ -18,7 +18,6 @@ use borrow.Author.Tests.{lt-ltb, le-ltb}
 use Rattle.format.specs.declared.Column.{Column}
 use Rattle.format.specs.declared.Fields.{Fields}
 use Rattle.format.specs.declared.Head.{Head}
-use Rattle.format.specs.declared.Spelling.TheVariants.{Shortest}
 use Rattle.format.specs.Outcome.{Outcome, Outcome.value, Outcome.refusal, ◌>>◌}
 use Rattle.format.specs.Word.{bytes_for}
 use Rattle.format.specs.Packing.{num_of, rows_bits, bytes_of, packed}
@@ -43,7 +42,7 @@ pub under_two : (s : List ℕ) (room : ℕ) (o : Loaded) → opened_under 2 s ro
 unfolding under_sheet
 under_two s room o e =
     by_step (opened s room) _ e λ p is e.
-    by_unit (strict s p.column p.spelling) (value p) e λ met same.
+    by_unit (strict s p.column p.longer) (value p) e λ met same.
     is ∙ same
 
 -- where the blocks of a footer were read, the last one's fields are found
@@ -73,27 +72,27 @@ pub refused_two : (s : List ℕ) (room : ℕ) (o : Loaded) → opened s room ≡
 unfolding under_sheet strict
 refused_two s room o is =
     let e = ending_there s room o is in
-    go e.0 e.1 (offending s o.column o.spelling e.0) refl
+    go e.0 e.1 (offending s o.column o.longer e.0) refl
   where
-    go : (e : Ending) → ending o.column.codec o.column.count o.column.rows s ≡ value e → (found : Option ℕ) → offending s o.column o.spelling e ≡ found
+    go : (e : Ending) → ending o.column.codec o.column.count o.column.rows s ≡ value e → (found : Option ℕ) → offending s o.column o.longer e ≡ found
         → (opened_under 2 s room ≡ value o) ⊎ ((offset : ℕ) × (opened_under 2 s room ≡ refusal 17 (offset ∷ [])))
-    go e known none found = inl (rw (is, known, found))
-    go e known (some offset) found = inr (offset, rw (is, known, found))
+    go e known None found = inl (rw (is, known, found))
+    go e known (Some offset) found = inr (offset, rw (is, known, found))
 
 -- ---- columns without offending bytes
 
-pub unclaimed_none : (from to : ℕ) → to ≤ from → unclaimed from to ≡ none
+pub unclaimed_none : (from to : ℕ) → to ≤ from → unclaimed from to ≡ None
 unclaimed_none from to h = rw (le-ltb from to h)
 
-pub overfull_none : (s : List ℕ) (last bits : ℕ) → (0 < bits → get_or s last 0 < 2 ^ bits) → overfull s last bits ≡ none
+pub overfull_none : (s : List ℕ) (last bits : ℕ) → (0 < bits → get_or s last 0 < 2 ^ bits) → overfull s last bits ≡ None
 overfull_none s last bits h =
     ⊎_elim
     (λ (no : bits < 1). rw (le-ltb 0 bits (omega arith)))
     (λ (more : 1 ≤ bits). rw (lt-ltb 0 bits more, div-eq_of_lt (h more)))
     (below_or bits 1)
 
-pub clean_column : (s : List ℕ) (col : Column) (e : Ending) → overfull s (col.start + col.size - 1) (e.bits * col.rows % 8) ≡ none
-    → unclaimed (col.start + col.size) e.resumes ≡ none → e.later ≡ none → clean (offending s col Shortest e) ≡ value tt
+pub clean_column : (s : List ℕ) (col : Column) (e : Ending) → overfull s (col.start + col.size - 1) (e.bits * col.rows % 8) ≡ None
+    → unclaimed (col.start + col.size) e.resumes ≡ None → e.later ≡ None → clean (offending s col None e) ≡ value tt
 clean_column s col e full gap rest = rw (full, gap, rest)
 
 -- ---- the last byte of packed numbers
@@ -121,7 +120,7 @@ packed_last w xs filled =
 
 -- so packed numbers in some bytes, whatever follows, leave nothing in their last byte
 pub overfull-packed : (s : List ℕ) (start w : ℕ) (xs more : List ℕ) → drop start s ≡ packed w xs ++ more
-    → overfull s (start + bytes_for (w * length xs) - 1) (w * length xs % 8) ≡ none
+    → overfull s (start + bytes_for (w * length xs) - 1) (w * length xs % 8) ≡ None
 overfull-packed s start w xs more e =
     overfull_none s (start + bytes_for (w * length xs) - 1) (w * length xs % 8) λ filled.
     let used = w * length xs in

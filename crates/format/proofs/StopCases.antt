@@ -1,9 +1,9 @@
 -- Where opening stops, computed: each part at which it can, by each number, and columns that open.
 --     heads_stop, linears_stop, footers_stop
 -- Assumes nothing.
+use Rattle.std.specs.Prelude.{Option, Some, None}
 use Prim.Native.Nat.{ℕ}
 use mathlib.Core.Path.{◌≡◌, refl}
-use mathlib.Core.Option.{Option, none, some}
 use mathlib.Core.List.{[], ◌∷◌, map}
 use Rattle.format.specs.declared.PartName.{PartName}
 use Rattle.format.specs.declared.PartName.TheVariants.{Code, Minimum, Gcd, Count, Rows, Slope, Intercept, Width, Area, BlockSlope, BlockIntercept, BlockWidth, FooterLength}
@@ -15,7 +15,7 @@ use Rattle.format.specs.Stops.{reach_head, reach_fields, reach_blocks, reach_bod
 
 -- a stop by its three numbers
 abbrev at : (number : ℕ) → PartName → (first : ℕ) → Option Stop
-at n name first = some (record { number = n; name = name; first = first })
+at n name first = Some (record { number = n; name = name; first = first })
 
 -- Bitpacked, field after field; the last opens
 heads_stop : map stop_of
@@ -31,14 +31,14 @@ heads_stop : map stop_of
     ∷ (0x00 ∷ 0x8A ∷ 0x8A ∷ 0x82 ∷ 0x83 ∷ [])
     ∷ (0x00 ∷ 0x8A ∷ 0x8A ∷ 0x82 ∷ 0x83 ∷ 0x18 ∷ [])
     ∷ [])
-    ≡ at 5 Code 0 ∷ at 5 Code 0 ∷ at 6 Minimum 1 ∷ at 6 Gcd 2 ∷ at 7 Gcd 2 ∷ at 6 Count 3 ∷ at 8 Count 3 ∷ at 6 Rows 4 ∷ at 8 Rows 4 ∷ at 10 Area 5 ∷ none ∷ []
+    ≡ at 5 Code 0 ∷ at 5 Code 0 ∷ at 6 Minimum 1 ∷ at 6 Gcd 2 ∷ at 7 Gcd 2 ∷ at 6 Count 3 ∷ at 8 Count 3 ∷ at 6 Rows 4 ∷ at 8 Rows 4 ∷ at 10 Area 5 ∷ None ∷ []
 unfolding reach reach_head reach_body read_varint scan width bit_length bits_in
 heads_stop = refl
 
 -- Linear, behind the head of a row 7
 linears_stop : map (λ body. stop_of (0x01 ∷ 0x87 ∷ 0x81 ∷ 0x80 ∷ 0x81 ∷ body))
     ([] ∷ (0x80 ∷ []) ∷ (0x80 ∷ 0x87 ∷ []) ∷ (0x80 ∷ 0x87 ∷ 0x39 ∷ []) ∷ (0x80 ∷ 0x87 ∷ 0x08 ∷ []) ∷ (0x80 ∷ 0x87 ∷ 0x00 ∷ []) ∷ [])
-    ≡ at 6 Slope 5 ∷ at 6 Intercept 6 ∷ at 6 Width 7 ∷ at 9 Width 7 ∷ at 10 Area 8 ∷ none ∷ []
+    ≡ at 6 Slope 5 ∷ at 6 Intercept 6 ∷ at 6 Width 7 ∷ at 9 Width 7 ∷ at 10 Area 8 ∷ None ∷ []
 unfolding reach reach_head reach_fields reach_body read_varint scan read_width
 linears_stop = refl
 
@@ -56,6 +56,6 @@ footers_stop : map (λ body. stop_of (0x02 ∷ 0x8A ∷ 0x8A ∷ 0x82 ∷ 0x83 �
     ∷ (0x08 ∷ 0x00 ∷ 0x00 ∷ 0x00 ∷ 0x00 ∷ 0x88 ∷ 0x80 ∷ 0x02 ∷ 0x07 ∷ 0x00 ∷ 0x00 ∷ 0x00 ∷ [])
     ∷ [])
     ≡ at 10 FooterLength 5 ∷ at 10 FooterLength 13 ∷ at 6 (BlockSlope 0) 5 ∷ at 6 (BlockSlope 0) 6 ∷ at 6 (BlockIntercept 0) 11 ∷ at 6 (BlockWidth 0) 12
-    ∷ at 9 (BlockWidth 0) 12 ∷ at 10 Area 5 ∷ none ∷ []
+    ∷ at 9 (BlockWidth 0) 12 ∷ at 10 Area 5 ∷ None ∷ []
 unfolding reach reach_head reach_fields reach_blocks reach_body read_varint scan read_width bytes_num
 footers_stop = refl

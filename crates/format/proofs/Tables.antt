@@ -4,6 +4,7 @@
 --     blocks_lawful, blocks_order, blocks_inside        legal widths, and where blocks lie
 --     widths_before, blocks_start                        a block starts at the sum of 64 · width over the blocks before it
 -- Assumes nothing.
+use Rattle.std.specs.Prelude.{None}
 use Prim.Native.Nat.{ℕ, zero, suc, ◌+◌, ◌-◌, ◌*◌, ◌≤◌, ◌<◌, min}
 use mathlib.Core.Path.{◌≡◌, refl, sym, ap, ◌∙◌, subst}
 use mathlib.Core.Bool.{true}
@@ -13,7 +14,6 @@ use native.Mathlib.Omega.{arith}
 use lib.ListN.{length}
 use Rattle.format.specs.declared.Block.{Block}
 use Rattle.format.specs.declared.Fields.{Fields}
-use Rattle.format.specs.declared.Spelling.TheVariants.{Shortest}
 use Rattle.format.specs.Outcome.{Outcome.value}
 use Rattle.format.specs.Word.{bytes_for}
 use Rattle.format.specs.Packing.{legal}
@@ -61,7 +61,7 @@ pub record BlocksRead (k : ℕ) (s : List ℕ) (at start rows : ℕ) (t : Table)
   pub last : (b : ℕ) → suc b ≡ k → end_at rows t.blocks b ≡ t.area
 
 -- no blocks
-blocks_none : (s : List ℕ) (at start rows : ℕ) → BlocksRead 0 s at start rows (record { blocks = []; area = start; spelling = Shortest })
+blocks_none : (s : List ℕ) (at start rows : ℕ) → BlocksRead 0 s at start rows (record { blocks = []; area = start; longer = None })
 blocks_none s at start rows = record {
   long = refl;
   entry = λ (b : ℕ) (h : b < 0). absurd (omega arith);

@@ -6,6 +6,7 @@
 --     tell_signed, tell_float, tell_flag, tell_typed
 --                        demand 3: what the answers read as differs where the stored numbers do
 -- Assumes nothing.
+use Rattle.std.specs.Prelude.{None}
 use mathlib.Core.Path.{◌≡◌, refl, sym, ap, ◌∙◌, subst}
 use mathlib.Core.Bool.{Bool, true, false, true≢false, false≢true}
 use mathlib.Core.Logic.{◌⊎◌, inl, inr}
@@ -18,7 +19,6 @@ use borrow.Author.Tests.{ltb-true, ltb-false}
 use Rattle.format.specs.declared.Block.{Block}
 use Rattle.format.specs.declared.Kind.{Kind}
 use Rattle.format.specs.declared.Kind.TheVariants.{U64, I64, Date, Bool as Flag, F64}
-use Rattle.format.specs.declared.Spelling.TheVariants.{Shortest}
 use Rattle.format.specs.declared.Window.{Window}
 use Rattle.format.specs.Outcome.{Outcome, Outcome.value, Outcome.refusal, ◌>>◌, demand}
 use Rattle.format.specs.Word.{AllBelow}
@@ -96,7 +96,7 @@ returns_as kind xs cs bytes table room each e enough =
     )
 
 pub shortest_as : (kind : Kind) (xs cs bytes : List ℕ) (table : List Block) (room : ℕ) → AllBelow (2 ^ 64) xs → written (stored_as kind xs) cs room ≡ value bytes
-    → block_count (length xs) ≤ length table → (o : Loaded) → opened bytes (length table) ≡ value o → o.spelling ≡ Shortest
+    → block_count (length xs) ≤ length table → (o : Loaded) → opened bytes (length table) ≡ value o → o.longer ≡ None
 shortest_as kind xs cs bytes table room each e enough =
     written_shortest (stored_as kind xs) cs bytes table room (stored-words kind xs each) e (rw (stored-length kind xs) enough)
 

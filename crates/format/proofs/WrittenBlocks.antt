@@ -5,6 +5,7 @@
 --     block_width-legal, entry_most, read_entry, block_for, table_from, read_blocks_lem                the footer is read back
 --     table_block, area_block                                                                   where a block among others stands in table and area
 -- Assumes nothing.
+use Rattle.std.specs.Prelude.{None}
 use mathlib.Core.Path.{◌≡◌, refl, sym, ap, ◌∙◌}
 use mathlib.Core.Bool.{true}
 use mathlib.Core.List.{List, [], ◌∷◌, ◌++◌, append_assoc}
@@ -15,7 +16,6 @@ use lib.ListN.{length, take, drop, get_or, length-append, length-take, length-dr
 use lib.Seq.{drop-drop, drop-append-add, drop-append_seam, get_or-take, get_or-drop, get_or-append_seam}
 use Rattle.format.specs.declared.Block.{Block}
 use Rattle.format.specs.declared.Fields.{Fields}
-use Rattle.format.specs.declared.Spelling.TheVariants.{Shortest}
 use Rattle.format.specs.Outcome.{Outcome.value}
 use Rattle.format.specs.Word.{bytes_for, mod_add, AllBelow}
 use Rattle.format.specs.Varint.{spell}
@@ -98,7 +98,7 @@ entry_most ys =
 
 -- a block's fields as they are read at an offset
 abbrev pub fields_of : ℕ → List ℕ → Fields
-fields_of at ys = record { line = trained ys; bits = block_width ys; next = at + length (block_entry ys); spelling = Shortest }
+fields_of at ys = record { line = trained ys; bits = block_width ys; next = at + length (block_entry ys); longer = None }
 
 pub read_entry : (s : List ℕ) (at : ℕ) (ys more : List ℕ) → drop at s ≡ block_entry ys ++ more → read_fields s at ≡ value (fields_of at ys)
 unfolding block_entry
@@ -133,7 +133,7 @@ table_append start (x ∷ a) b =
     rw (← moved) (ap (λ (l : List Block). block_for start x ∷ l) (table_append (start + length (block_area x)) a b))
 
 abbrev pub table_of : ℕ → List (List ℕ) → Table
-table_of start bs = record { blocks = table_from start bs; area = start + length (joined block_area bs); spelling = Shortest }
+table_of start bs = record { blocks = table_from start bs; area = start + length (joined block_area bs); longer = None }
 
 -- where a footer stands, its blocks' table is read, whatever follows
 pub read_blocks_lem : (k : ℕ) (ns s : List ℕ) (at start : ℕ) (more : List ℕ) → drop at s ≡ footer (blocks_in k ns) ++ more → read_blocks k s at start (length ns) ≡ value (table_of start (blocks_in k ns))

@@ -1,12 +1,9 @@
 -- What is asked of the parts and of the rows that a byte names, as statements about the definitions.
 -- Assumes nothing.
-use Rattle.std.specs.Prelude.{ℕ, ◌+◌, ◌*◌, ◌≤◌, ◌<◌, ◌≡◌, Bool, ◌&&◌, List, [], ◌∷◌, ltb, leb, length, get_or}
-use Rattle.std.proofs.Math.Option.{some}
+use Rattle.std.specs.Prelude.{ℕ, ◌+◌, ◌*◌, ◌≤◌, ◌<◌, ◌≡◌, Bool, ◌&&◌, List, [], ◌∷◌, ltb, leb, length, get_or, Option, Some, None}
 use Rattle.format.specs.declared.Block.{Block}
 use Rattle.format.specs.declared.PartName.TheVariants.{Area, Behind}
 use Rattle.format.specs.declared.Part.{Part}
-use Rattle.format.specs.declared.Owners.{Owners}
-use Rattle.format.specs.declared.Owners.TheVariants.{Rows, NoRow}
 use Rattle.format.specs.Outcome.{Outcome.value, pick}
 use Rattle.format.specs.Opening.{Loaded, opened}
 use Rattle.format.specs.Parts.{part_end, parts_of, part_at, behind_end, owners_at}
@@ -32,11 +29,11 @@ holding (p ∷ ps) i = pick (holds p i) (p ∷ holding ps i) (holding ps i)
 -- it; the area, and the bytes behind it, are one part each
 pub record Parted (s : List ℕ) (o : Loaded) : Type 0 where
   pub cover : Consecutive 0 (parts_of s o.column) (length s)
-  pub each : (i : ℕ) → i < length s → (p : Part) × (part_at s o.column i ≡ some p) × (holding (parts_of s o.column) i ≡ p ∷ [])
+  pub each : (i : ℕ) → i < length s → (p : Part) × (part_at s o.column i ≡ Some p) × (holding (parts_of s o.column) i ≡ p ∷ [])
   pub area : (i : ℕ) → o.column.start ≤ i → i < o.column.start + o.column.size
-      → part_at s o.column i ≡ some (record { name = Area; first = o.column.start; bytes = o.column.size; value = 0 })
+      → part_at s o.column i ≡ Some (record { name = Area; first = o.column.start; bytes = o.column.size; value = 0 })
   pub behind : (i n : ℕ) → o.column.start + o.column.size + n ≡ behind_end o.column.codec s → o.column.start + o.column.size ≤ i → i < behind_end o.column.codec s
-      → part_at s o.column i ≡ some (record { name = Behind; first = o.column.start + o.column.size; bytes = n; value = 0 })
+      → part_at s o.column i ≡ Some (record { name = Behind; first = o.column.start + o.column.size; bytes = n; value = 0 })
 
 -- every column that opens is so
 abbrev pub AllParted : Type 0
@@ -49,9 +46,9 @@ abbrev pub OwnsIn : Loaded → (r i : ℕ) → Type 0
 OwnsIn o r i = (k : ℕ) × (8 * i ≤ k) × (k < 8 * i + 8) × Owns o r k
 
 -- a row is named
-abbrev pub Named : Owners → (r : ℕ) → Type 0
-Named (Rows first last) r = (first ≤ r) × (r ≤ last)
-Named NoRow r = ⊥
+abbrev pub Named : Option (ℕ × ℕ) → (r : ℕ) → Type 0
+Named (Some (first, last)) r = (first ≤ r) × (r ≤ last)
+Named None r = ⊥
 
 -- the rows named for a byte are the column's rows that own a bit of it; and each byte of the area has one
 pub record Owned (o : Loaded) (i : ℕ) : Type 0 where

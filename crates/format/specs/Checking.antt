@@ -1,7 +1,6 @@
 -- Checking a column from another writer against the list of values that it is to hold.
 -- Assumes nothing.
-use Rattle.std.specs.Prelude.{ℕ, suc, ◌+◌, ◌*◌, Bool, List, [], ◌∷◌, eqb, length}
-use Rattle.std.proofs.Math.Option.{Option, none, some}
+use Rattle.std.specs.Prelude.{ℕ, suc, ◌+◌, ◌*◌, Bool, List, [], ◌∷◌, eqb, length, Option, Some, None}
 use Rattle.format.specs.declared.Column.{Column}
 use Rattle.format.specs.declared.ColumnStats.{ColumnStats}
 use Rattle.format.specs.Outcome.{Outcome, Outcome.value, Outcome.refusal, pick}
@@ -30,13 +29,13 @@ or test reason next = pick test next (failed reason)
 
 -- the first row, of those from r on, that does not read as its value in a list; a refused row does not
 unfoldable pub first_unequal : (read : ℕ → Outcome ℕ) (r : ℕ) (vs : List ℕ) → Option ℕ
-first_unequal read r [] = none
-first_unequal read r (v ∷ vs) = pick (equal_answers (read r) (value v)) (first_unequal read (suc r) vs) (some r)
+first_unequal read r [] = None
+first_unequal read r (v ∷ vs) = pick (equal_answers (read r) (value v)) (first_unequal read (suc r) vs) (Some r)
 
 -- that row as a verdict, or the next test
 abbrev pub by_row : Option ℕ → Verdict → Verdict
-by_row none next = next
-by_row (some r) next = failed (unequal r)
+by_row None next = next
+by_row (Some r) next = failed (unequal r)
 
 -- the head against the statistics of the list: minimum, gcd, maximum
 unfoldable pub judged_head : Column → ColumnStats → Verdict

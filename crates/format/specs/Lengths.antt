@@ -1,7 +1,6 @@
 -- How long a written column is, as statements about the definitions.
 -- Assumes nothing.
-use Rattle.std.specs.Prelude.{ℕ, zero, suc, ◌+◌, ◌*◌, ◌^◌, ◌≤◌, ◌<◌, max, ◌≡◌, List, map, length, get_or}
-use Rattle.std.proofs.Math.Option.{some}
+use Rattle.std.specs.Prelude.{ℕ, zero, suc, ◌+◌, ◌*◌, ◌^◌, ◌≤◌, ◌<◌, max, ◌≡◌, List, map, length, get_or, Some}
 use Rattle.format.specs.Outcome.{Outcome.value, Outcome.refusal}
 use Rattle.format.specs.Word.{mod_add, AllBelow}
 use Rattle.format.specs.Stats.{stats_of}
@@ -13,7 +12,7 @@ use Rattle.format.specs.Writing.{size_of, written}
 pub record WroteBy (codec : ℕ) (vs cs : List ℕ) (room estimate : ℕ) (bytes : List ℕ) : Type 0 where
   pub column : written vs cs room ≡ value bytes
   pub code : get_or bytes 0 0 ≡ codec
-  pub estimated : size_of codec (stats_of vs) vs ≡ some estimate
+  pub estimated : size_of codec (stats_of vs) vs ≡ Some estimate
 
 -- Bitpacked and Linear write their estimate and the code byte
 abbrev pub Exact : Type 0

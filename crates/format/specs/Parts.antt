@@ -1,7 +1,7 @@
 -- The parts of a column's bytes, in order of offset, and the rows that own a bit of a byte.
 -- Assumes nothing.
-use Rattle.std.specs.Prelude.{ℕ, zero, suc, ◌+◌, ◌-◌, ◌*◌, ◌/◌, min, ◌&&◌, List, [], ◌∷◌, ◌++◌, ltb, leb, length, drop, get_or}
-use Rattle.std.proofs.Math.Option.{Option, none, some}
+use Rattle.std.specs.Prelude.{ℕ, zero, suc, ◌+◌, ◌-◌, ◌*◌, ◌/◌, min, ◌&&◌, List, [], ◌∷◌, ◌++◌, ltb, leb, length, drop, get_or, Option, Some, None}
+use Rattle.std.specs.Option.{option_or}
 use Rattle.format.specs.declared.Field.{Field}
 use Rattle.format.specs.declared.Codec.{Codec}
 use Rattle.format.specs.declared.Codec.TheVariants.{Bitpacked, Linear, Blockwise}
@@ -12,8 +12,6 @@ use Rattle.format.specs.declared.PartName.TheVariants.{Code, Minimum, Gcd, Count
 use Rattle.format.specs.declared.Shape.{Shape}
 use Rattle.format.specs.declared.Shape.TheVariants.{Varint, Byte, Four, Area as AreaBytes, Behind as BehindBytes, Spare as SpareBytes}
 use Rattle.format.specs.declared.Part.{Part}
-use Rattle.format.specs.declared.Owners.{Owners}
-use Rattle.format.specs.declared.Owners.TheVariants.{Rows as OwnRows, NoRow}
 use Rattle.format.specs.Outcome.{Outcome, Outcome.value, Outcome.refusal, pick}
 use Rattle.format.specs.Varint.{read_varint}
 use Rattle.format.specs.Packing.{width, legal, bytes_num}
@@ -131,8 +129,8 @@ parts_of s col = parts_from s col 0 (names col.codec col.rows)
 
 -- the first part that ends behind an offset
 unfoldable pub part_in : List Part → (i : ℕ) → Option Part
-part_in [] i = none
-part_in (p ∷ ps) i = pick (ltb i (part_end p)) (some p) (part_in ps i)
+part_in [] i = None
+part_in (p ∷ ps) i = pick (ltb i (part_end p)) (Some p) (part_in ps i)
 
 -- the part that holds the byte at an offset; none past the last byte
 abbrev pub part_at : (s : List ℕ) → Column → (i : ℕ) → Option Part
@@ -148,33 +146,28 @@ pub record Run : Type 0 where
   pub rows : ℕ
 
 -- the rows of a run that own a bit of byte j of the area: from that of the byte's first bit to that of its last, unless filling bits are all it has
-unfoldable pub run_owners : Run → (j : ℕ) → Owners
+unfoldable pub run_owners : Run → (j : ℕ) → Option (ℕ × ℕ)
 run_owners u j =
     let bit = 8 * (j - u.start) in
     pick (legal u.bits && leb u.start j && ltb bit (u.rows * u.bits))
-    (OwnRows (u.first + bit / u.bits) (u.first + min ((bit + 7) / u.bits) (u.rows - 1)))
-    NoRow
+    (Some (u.first + bit / u.bits, u.first + min ((bit + 7) / u.bits) (u.rows - 1)))
+    None
 
 -- the rows of block k, of so many in all blocks
 abbrev pub block_run : (table : List Block) (rows k : ℕ) → Run
 block_run t rows k = record { start = (block_at t k).start; bits = (block_at t k).bits; first = 512 * k; rows = min (rows - 512 * k) 512 }
 
--- one answer, or another where it names no row
-abbrev pub or_else : Owners → Owners → Owners
-or_else (OwnRows first last) other = OwnRows first last
-or_else NoRow other = other
-
 -- the same over n blocks from block k on
-unfoldable pub block_owners : (table : List Block) (rows k n j : ℕ) → Owners
-block_owners t rows k zero j = NoRow
-block_owners t rows k (suc n) j = or_else (run_owners (block_run t rows k) j) (block_owners t rows (suc k) n j)
+unfoldable pub block_owners : (table : List Block) (rows k n j : ℕ) → Option (ℕ × ℕ)
+block_owners t rows k zero j = None
+block_owners t rows k (suc n) j = option_or (run_owners (block_run t rows k) j) (block_owners t rows (suc k) n j)
 
 -- by the codec
-unfoldable pub area_owners : Codec → (count rows : ℕ) (table : List Block) (j : ℕ) → Owners
+unfoldable pub area_owners : Codec → (count rows : ℕ) (table : List Block) (j : ℕ) → Option (ℕ × ℕ)
 area_owners Bitpacked count rows t j = run_owners (record { start = 0; bits = width count; first = 0; rows = rows }) j
 area_owners (Linear l w) count rows t j = run_owners (record { start = 0; bits = w; first = 0; rows = rows }) j
 area_owners Blockwise count rows t j = block_owners t rows 0 (block_count rows) j
 
 -- the rows that own a bit of the byte at an offset; none does before the area
-unfoldable pub owners_at : Column → (table : List Block) (i : ℕ) → Owners
-owners_at col t i = pick (leb col.start i) (area_owners col.codec col.count col.rows t (i - col.start)) NoRow
+unfoldable pub owners_at : Column → (table : List Block) (i : ℕ) → Option (ℕ × ℕ)
+owners_at col t i = pick (leb col.start i) (area_owners col.codec col.count col.rows t (i - col.start)) None

@@ -1,7 +1,7 @@
 -- Replaying recorded lookups: what a recording holds, when it is refused, and which record's lookup differs first.
 -- Assumes nothing.
-use Rattle.std.specs.Prelude.{ℕ, zero, suc, ◌+◌, ◌-◌, ◌*◌, min, Bool, true, false, ◌&&◌, ◌||◌, List, [], ◌∷◌, leb, eqb, length, take, drop}
-use Rattle.std.proofs.Math.Option.{Option, none, some}
+use Rattle.std.specs.Prelude.{ℕ, zero, suc, ◌+◌, ◌-◌, ◌*◌, min, Bool, true, false, ◌&&◌, ◌||◌, List, [], ◌∷◌, leb, eqb, length, take, drop, Option, Some, None}
+use Rattle.format.specs.declared.Report.{Report}
 use Rattle.format.specs.declared.Recording.{Recording}
 use Rattle.format.specs.declared.Recorded.{Recorded}
 use Rattle.format.specs.Outcome.{Outcome, Outcome.value, Outcome.refusal, ◌>>◌, demand, pick}
@@ -90,18 +90,13 @@ agrees read rows h s k =
 
 -- the first of n records from k on that does not
 unfoldable pub first_differing : (agree : ℕ → Bool) (k n : ℕ) → Option ℕ
-first_differing agree k zero = none
-first_differing agree k (suc n) = pick (agree k) (first_differing agree (suc k) n) (some k)
+first_differing agree k zero = None
+first_differing agree k (suc n) = pick (agree k) (first_differing agree (suc k) n) (Some k)
 
--- what a replay reports: that record, if there is one, and how many were run
-pub record Report : Type 0 where
-  pub differing : Option ℕ
-  pub run : ℕ
-
--- up to that record, or all of so many
+-- what a replay of so many records reports: up to that record, if there is one, or all
 abbrev pub reported : (records : ℕ) → Option ℕ → Report
-reported records none = record { differing = none; run = records }
-reported records (some k) = record { differing = some k; run = k + 1 }
+reported records None = record { differing = None; run = records }
+reported records (Some k) = record { differing = Some k; run = k + 1 }
 
 -- replaying a recording; what is none is refused before any lookup
 unfoldable pub replayed : (read : ℕ → Outcome ℕ) (rows : ℕ) (s : List ℕ) → Outcome Report

@@ -1,15 +1,12 @@
 -- Acceptance sheets. Sheet 1 is opening as it stands. Sheet 2 asks besides that every number has its shortest spelling, that no byte belongs to no part, and
 -- that the bits which fill up the area's last byte are 0.
 -- Assumes nothing.
-use Rattle.std.specs.Prelude.{ℕ, zero, suc, ◌+◌, ◌-◌, ◌*◌, ◌/◌, ◌%◌, ◌^◌, min, ◌&&◌, List, [], ◌∷◌, ◌++◌, ltb, length, take, drop, get_or}
-use Rattle.std.proofs.Math.Option.{Option, none, some}
+use Rattle.std.specs.Prelude.{ℕ, zero, suc, ◌+◌, ◌-◌, ◌*◌, ◌/◌, ◌%◌, ◌^◌, min, ◌&&◌, List, [], ◌∷◌, ◌++◌, ltb, length, take, drop, get_or, Option, Some, None}
 use Rattle.format.specs.declared.Codec.{Codec}
 use Rattle.format.specs.declared.Codec.TheVariants.{Bitpacked, Linear, Blockwise}
 use Rattle.format.specs.declared.Column.{Column}
 use Rattle.format.specs.declared.Block.{Block}
 use Rattle.format.specs.declared.Fields.{Fields}
-use Rattle.format.specs.declared.Spelling.{Spelling}
-use Rattle.format.specs.declared.Spelling.TheVariants.{Shortest, Longer}
 use Rattle.format.specs.Outcome.{Outcome, Outcome.value, Outcome.refusal, ◌>>=◌, ◌>>◌, pick}
 use Rattle.format.specs.Varint.{spell}
 use Rattle.format.specs.Packing.{width, bytes_num}
@@ -21,22 +18,17 @@ use Rattle.format.specs.Listing.{code_of}
 
 -- the lower of two offsets, where there are any
 abbrev pub lower : Option ℕ → Option ℕ → Option ℕ
-lower none b = b
-lower (some a) none = some a
-lower (some a) (some b) = some (min a b)
-
--- the first longer spelling
-abbrev pub longer : Spelling → Option ℕ
-longer Shortest = none
-longer (Longer offset) = some offset
+lower None b = b
+lower (Some a) None = Some a
+lower (Some a) (Some b) = Some (min a b)
 
 -- the first of the bytes from one offset up to another, where there are any
 abbrev pub unclaimed : (from to : ℕ) → Option ℕ
-unclaimed from to = pick (ltb from to) (some from) none
+unclaimed from to = pick (ltb from to) (Some from) None
 
 -- an area's last byte, where bits of it above the last rows' are not 0; so many bits of it are rows'
 abbrev pub overfull : (s : List ℕ) (last bits : ℕ) → Option ℕ
-overfull s last bits = pick (ltb 0 bits && ltb 0 (get_or s last 0 / 2 ^ bits)) (some last) none
+overfull s last bits = pick (ltb 0 bits && ltb 0 (get_or s last 0 / 2 ^ bits)) (Some last) None
 
 -- ---- what is known of a column's end
 
@@ -53,8 +45,8 @@ last_fields (suc k) s bits at = read_fields s at >>= (λ (f : Fields). last_fiel
 
 -- nothing comes behind the area of Bitpacked and Linear; in Blockwise the footer does, which has to end with the last block's fields
 unfoldable pub ending : Codec → (count rows : ℕ) (s : List ℕ) → Outcome Ending
-ending Bitpacked count rows s = value (record { bits = width count; resumes = length s; later = none })
-ending (Linear l w) count rows s = value (record { bits = w; resumes = length s; later = none })
+ending Bitpacked count rows s = value (record { bits = width count; resumes = length s; later = None })
+ending (Linear l w) count rows s = value (record { bits = w; resumes = length s; later = None })
 ending Blockwise count rows s = do
   let end = length s - 4
   let start = end - bytes_num (drop end s)
@@ -64,25 +56,25 @@ ending Blockwise count rows s = do
 -- ---- the sheets
 
 -- the first offending byte of a column that was opened
-abbrev pub offending : (s : List ℕ) → Column → Spelling → Ending → Option ℕ
+abbrev pub offending : (s : List ℕ) → Column → Option ℕ → Ending → Option ℕ
 offending s col p e =
     let end = col.start + col.size in
-    lower (longer p) (lower (overfull s (end - 1) (e.bits * col.rows % 8)) (lower (unclaimed end e.resumes) e.later))
+    lower p (lower (overfull s (end - 1) (e.bits * col.rows % 8)) (lower (unclaimed end e.resumes) e.later))
 
 -- it is refused
 abbrev pub clean : Option ℕ → Outcome (Unit {0})
-clean none = value tt
-clean (some offset) = refusal 17 (offset ∷ [])
+clean None = value tt
+clean (Some offset) = refusal 17 (offset ∷ [])
 
 -- what sheet 2 asks of an opened column
-unfoldable pub strict : (s : List ℕ) → Column → Spelling → Outcome (Unit {0})
+unfoldable pub strict : (s : List ℕ) → Column → Option ℕ → Outcome (Unit {0})
 strict s col p = ending col.codec col.count col.rows s >>= (λ (e : Ending). clean (offending s col p e))
 
 -- what an opening of some bytes found, under a sheet; 18 comes before all of it
 unfoldable pub under_sheet : (sheet : ℕ) (s : List ℕ) → Outcome Loaded → Outcome Loaded
 under_sheet zero s o = refusal 18 []
 under_sheet (suc zero) s o = o
-under_sheet (suc (suc zero)) s o = o >>= (λ (l : Loaded). strict s l.column l.spelling >> value l)
+under_sheet (suc (suc zero)) s o = o >>= (λ (l : Loaded). strict s l.column l.longer >> value l)
 under_sheet (suc (suc (suc sheet))) s o = refusal 18 []
 
 -- opening under a sheet

@@ -1,7 +1,7 @@
 -- Where opening stops: the order of reading once more, with the part that is being read at each step and the offset where it begins.
 -- Assumes nothing.
-use Rattle.std.specs.Prelude.{ℕ, zero, suc, ◌+◌, ◌-◌, ◌*◌, ◌^◌, ◌≤◌, min, ◌≡◌, List, [], ◌∷◌, ltb, leb, length, take, drop}
-use Rattle.std.proofs.Math.Option.{Option, none, some}
+use Rattle.std.specs.Option.{option_or}
+use Rattle.std.specs.Prelude.{ℕ, zero, suc, ◌+◌, ◌-◌, ◌*◌, ◌^◌, ◌≤◌, min, ◌≡◌, List, [], ◌∷◌, ltb, leb, length, take, drop, Option, Some, None}
 use Rattle.format.specs.declared.Head.{Head}
 use Rattle.format.specs.declared.Fields.{Fields}
 use Rattle.format.specs.declared.PartName.{PartName}
@@ -9,7 +9,7 @@ use Rattle.format.specs.declared.PartName.TheVariants.{Code, Minimum, Gcd, Count
 use Rattle.format.specs.declared.Stop.{Stop}
 use Rattle.format.specs.Outcome.{Outcome, Outcome.value, Outcome.refusal, demand}
 use Rattle.format.specs.Word.{bytes_for}
-use Rattle.format.specs.Varint.{first_of, read_varint}
+use Rattle.format.specs.Varint.{read_varint}
 use Rattle.format.specs.Packing.{width, bytes_num}
 use Rattle.format.specs.Bodies.{block_count}
 use Rattle.format.specs.Opening.{read_width, opened}
@@ -52,7 +52,7 @@ reach_head s = do
     count = count.value;
     rows = rows.value;
     next = rows.next;
-    spelling = first_of minimum.spelling (first_of gcd.spelling (first_of count.spelling rows.spelling));
+    longer = option_or minimum.longer (option_or gcd.longer (option_or count.longer rows.longer));
   })
 
 -- a line and its width, by the names of their parts
@@ -65,7 +65,7 @@ reach_fields a b w s at = do
     line = record { slope = slope.value; intercept = intercept.value };
     bits = bits;
     next = intercept.next + 1;
-    spelling = first_of slope.spelling intercept.spelling;
+    longer = option_or slope.longer intercept.longer;
   })
 
 -- an area that begins at an offset and has to end before another
@@ -103,8 +103,8 @@ reach (c ∷ s) = do
 
 -- where it stops, if it does
 abbrev pub stop_in : {A : Type 0} → Reach A → Option Stop
-stop_in (reached a) = none
-stop_in (stops t) = some t
+stop_in (reached a) = None
+stop_in (stops t) = Some t
 
 -- where opening some bytes stops
 abbrev pub stop_of : (s : List ℕ) → Option Stop

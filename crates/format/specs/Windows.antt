@@ -45,4 +45,4 @@ whole o = record { first = 0; rows = o.column.rows }
 
 -- what opening found, with another window
 abbrev pub in_window : Loaded → Window → Loaded
-in_window o w = record { column = windowed o.column w; table = o.table; spelling = o.spelling }
+in_window o w = record { column = windowed o.column w; table = o.table; longer = o.longer }

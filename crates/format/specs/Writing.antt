@@ -1,7 +1,6 @@
 -- Sizes, the choice of a codec, and writing.
 -- Assumes nothing.
-use Rattle.std.specs.Prelude.{ℕ, zero, suc, ◌+◌, ◌-◌, ◌*◌, ◌^◌, List, [], ◌∷◌, ltb, leb, length}
-use Rattle.std.proofs.Math.Option.{Option, none, some}
+use Rattle.std.specs.Prelude.{ℕ, zero, suc, ◌+◌, ◌-◌, ◌*◌, ◌^◌, List, [], ◌∷◌, ltb, leb, length, Option, Some, None}
 use Rattle.format.specs.declared.ColumnStats.{ColumnStats}
 use Rattle.format.specs.Outcome.{Outcome, Outcome.value, Outcome.refusal, ◌>>=◌, ◌>>◌, demand, pick}
 use Rattle.format.specs.Word.{bytes_for}
@@ -24,11 +23,11 @@ block_sizes (b ∷ bs) = block_size b + block_sizes bs
 
 -- a codec's size by its number; none where it does not apply. Blockwise is sized on blocks of the raw values, and never below 0
 unfoldable pub size_of : (codec : ℕ) → ColumnStats → List ℕ → Option ℕ
-size_of zero s vs = some (length (spell_head s) + bytes_for (width (count_of s) * s.rows))
+size_of zero s vs = Some (length (spell_head s) + bytes_for (width (count_of s) * s.rows))
 size_of (suc zero) s vs =
-    pick (ltb (length vs) 512) none
-    (some (length (spell_head s) + length (spell_line (linear_line vs)) + 1 + bytes_for (linear_width vs * s.rows)))
-size_of (suc (suc c)) s vs = some (4 + length (spell_head s) + block_sizes (blocks vs) - saving s.gcd s.rows)
+    pick (ltb (length vs) 512) None
+    (Some (length (spell_head s) + length (spell_line (linear_line vs)) + 1 + bytes_for (linear_width vs * s.rows)))
+size_of (suc (suc c)) s vs = Some (4 + length (spell_head s) + block_sizes (blocks vs) - saving s.gcd s.rows)
 
 -- ---- choosing
 
@@ -39,18 +38,18 @@ pub record Sized : Type 0 where
 
 -- a codec whose size is known
 abbrev pub sized : ℕ → Option ℕ → Option Sized
-sized c none = none
-sized c (some n) = some (record { codec = c; size = n })
+sized c None = None
+sized c (Some n) = Some (record { codec = c; size = n })
 
 -- the smaller of two, the first of equals
 abbrev pub smaller : Option Sized → Option Sized → Option Sized
-smaller none b = b
-smaller (some a) none = some a
-smaller (some a) (some b) = pick (leb a.size b.size) (some a) (some b)
+smaller None b = b
+smaller (Some a) None = Some a
+smaller (Some a) (Some b) = pick (leb a.size b.size) (Some a) (Some b)
 
 -- the smallest of a list; of equals, the one that is listed first
 unfoldable pub chosen : (size : ℕ → Option ℕ) → List ℕ → Option Sized
-chosen size [] = none
+chosen size [] = None
 chosen size (c ∷ cs) = smaller (sized c (size c)) (chosen size cs)
 
 -- ---- writing
@@ -62,8 +61,8 @@ known i (c ∷ cs) = demand (leb c 2) 2 (i ∷ []) >> known (suc i) cs
 
 -- the codec of a choice; no choice is refused
 abbrev pub codec_of : Option Sized → Outcome ℕ
-codec_of none = refusal 3 []
-codec_of (some s) = value s.codec
+codec_of None = refusal 3 []
+codec_of (Some s) = value s.codec
 
 -- writing a list of values by a list of codecs, into an output of so many bytes
 unfoldable pub written : (vs cs : List ℕ) (room : ℕ) → Outcome (List ℕ)

@@ -3,10 +3,10 @@
 #![tactic(auto)]
 
 ghost use Rattle.std.specs.Prelude.{◌≡◌, get_or};
-ghost use Rattle.format.specs.Refusals.{paper};
+ghost use Rattle.format.specs.Comparing.{equal_answers};
+ghost use Rattle.format.specs.Refusals.{paper, answered_by};
 ghost use Rattle.format.specs.Bodies.{block_count};
 ghost use Rattle.format.specs.Opening.{column_of};
-ghost use Rattle.format.specs.Varint.{first_of};
 
 // Why a call refuses: a case for each number, with what it also returns (specs/Refusals.antt has the table).
 #[derive(Clone, Copy)]
@@ -91,6 +91,17 @@ impl Refusal {
     }
 }
 
+// Whether two answers are equal: refusals are by their numbers.
+pub fn equal_answers(left: Result<u64, Refusal>, right: Result<u64, Refusal>) -> bool
+    ensures { result ≡ equal_answers (answered_by left) (answered_by right) }
+{
+    match (left, right) {
+        (Ok(v), Ok(w)) => v == w,
+        (Err(a), Err(b)) => a.number() == b.number(),
+        _ => false,
+    }
+}
+
 // Statistics of a list of values.
 #[derive(Clone, Copy)]
 pub struct ColumnStats {
@@ -102,7 +113,7 @@ pub struct ColumnStats {
 
 // A line in whole numbers: the slope has 32 bits after the point.
 #[repr(C)]
-#[derive(Clone, Copy)]
+#[derive(Clone, Copy, Default)]
 pub struct Line {
     pub slope: u64,
     pub intercept: u64,
@@ -138,7 +149,7 @@ pub struct Column {
 
 // A block of a Blockwise column: its line, the width of its packed numbers, and its start byte, counted from the area's start.
 #[repr(C)]
-#[derive(Clone, Copy)]
+#[derive(Clone, Copy, Default)]
 pub struct Block {
     pub line: Line,
     pub bits: u64,
@@ -170,35 +181,16 @@ pub struct ColumnRow(pub u32);
 #[derive(Clone, Copy)]
 pub struct BlockRow(pub u32);
 
-// How numbers are spelled: each in as few bytes as it can be, or the first that is not at an offset.
-#[derive(Clone, Copy)]
-pub enum Spelling {
-    Shortest,
-    Longer { offset: usize },
-}
-
-impl Spelling {
-    // Of the spellings of some numbers and of those behind them, the first longer one.
-    pub fn or_later(self, later: Spelling) -> Spelling
-        ensures { result ≡ first_of self later }
-    {
-        match self {
-            Spelling::Shortest => later,
-            Spelling::Longer { offset: _ } => self,
-        }
-    }
-}
-
-// A number that was read from the bytes, the offset behind it, how many bytes it took, and how it is spelled.
+// A number that was read from the bytes, the offset behind it, how many bytes it took, and its offset if it is spelled longer than need be.
 #[derive(Clone, Copy)]
 pub struct Field {
     pub value: u64,
     pub next: usize,
     pub used: usize,
-    pub spelling: Spelling,
+    pub longer: Option<usize>,
 }
 
-// A head that was read, the offset behind it, and how its numbers are spelled.
+// A head that was read, the offset behind it, and the offset of its first number that is spelled longer than need be, if there is one.
 #[derive(Clone, Copy)]
 pub struct Head {
     pub minimum: u64,
@@ -206,7 +198,7 @@ pub struct Head {
     pub count: u64,
     pub rows: u32,
     pub next: usize,
-    pub spelling: Spelling,
+    pub longer: Option<usize>,
 }
 
 impl Head {
@@ -231,13 +223,13 @@ impl Head {
     }
 }
 
-// A line and a width that were read, the offset behind them, and how the line is spelled.
+// A line and a width that were read, the offset behind them, and the offset of the line's first number that is spelled longer than need be, if there is one.
 #[derive(Clone, Copy)]
 pub struct Fields {
     pub line: Line,
     pub bits: u8,
     pub next: usize,
-    pub spelling: Spelling,
+    pub longer: Option<usize>,
 }
 
 // What the values of a column are. A list of them is lent as words: a signed number or a date by its two's complement bits, a float by
@@ -259,7 +251,7 @@ pub struct Range {
 }
 
 // The header of a recording of lookups: how many records it has, from which offset on, and how many row numbers, from which on.
-#[derive(Clone, Copy)]
+#[derive(Clone, Copy, Default)]
 pub struct Recording {
     pub records: u32,
     pub start: u32,
@@ -268,7 +260,7 @@ pub struct Recording {
 }
 
 // A recorded lookup: its range of values, its rows, the place of its first row number in the list, and how many there are.
-#[derive(Clone, Copy)]
+#[derive(Clone, Copy, Default)]
 pub struct Recorded {
     pub low: u64,
     pub high: u64,
@@ -278,76 +270,16 @@ pub struct Recorded {
     pub many: u32,
 }
 
-// What the entry points answer (specs/Refusals.antt says what each case means).
-
-// Statistics of a list.
+// Replaying recorded lookups: the record whose rows differ, if one does, and how many records were run.
 #[derive(Clone, Copy)]
-pub enum Stated {
-    Stats(ColumnStats),
-    Refused(Refusal),
+pub struct Report {
+    pub differing: Option<u32>,
+    pub run: u32,
 }
 
-// Opening: the column, and how its numbers are spelled; its blocks stand in the lent table.
+// Why a column is not that of a list: the first reason.
 #[derive(Clone, Copy)]
-pub enum Opened {
-    Column(Column, Spelling),
-    Refused(Refusal),
-}
-
-// Narrowing a column's window: the column with the new window, or a refusal and the column as it was.
-#[derive(Clone, Copy)]
-pub enum Narrowed {
-    Column(Column),
-    Refused(Refusal, Column),
-}
-
-// Reading a row.
-#[derive(Clone, Copy)]
-pub enum RowRead {
-    Value(u64),
-    Refused(Refusal),
-}
-
-// The same of a column of signed numbers or dates,
-#[derive(Clone, Copy)]
-pub enum SignedRead {
-    Value(i64),
-    Refused(Refusal),
-}
-
-// of bools,
-#[derive(Clone, Copy)]
-pub enum FlagRead {
-    Value(bool),
-    Refused(Refusal),
-}
-
-// and of floats, each by its bits.
-#[derive(Clone, Copy)]
-pub enum FloatRead {
-    Value(u64),
-    Refused(Refusal),
-}
-
-// Storing a list, as writing, looking rows up and decoding a run do: how many entries now stand at the front of what was lent.
-#[derive(Clone, Copy)]
-pub enum Stored {
-    Entries(usize),
-    Refused(Refusal),
-}
-
-// Replaying recorded lookups: how many records were run. All agree, or the last that was run differs.
-#[derive(Clone, Copy)]
-pub enum Replayed {
-    Agree { run: u32 },
-    Differ { index: u32, run: u32 },
-    Refused(Refusal),
-}
-
-// Checking a column against a list: it is passed, or the first reason why not.
-#[derive(Clone, Copy)]
-pub enum Checked {
-    Passed,
+pub enum Mismatch {
     Unopened(Refusal),
     Counts { column: u32, list: usize },
     Unequal { row: u32 },
@@ -403,11 +335,4 @@ pub struct Stop {
     pub number: u8,
     pub name: PartName,
     pub first: usize,
-}
-
-// The rows that own a bit of a byte: all from the first to the last, or none.
-#[derive(Clone, Copy)]
-pub enum Owners {
-    Rows { first: u32, last: u32 },
-    NoRow,
 }

@@ -5,6 +5,8 @@
 --     part_at_determined, parts_determined, stop_determined, rows_at_determined
 --     values_as_determined, i64_of_determined, bool_of_determined, f64_bits_of_determined, i64_range_determined, bool_range_determined, f64_range_determined
 -- Assumes nothing.
+use Rattle.format.specs.declared.Report.{Report}
+use Rattle.std.specs.Prelude.{Option}
 use Prim.Native.Nat.{ℕ}
 use mathlib.Core.Path.{◌≡◌, sym, ◌∙◌}
 use mathlib.Core.Bool.{Bool}
@@ -14,10 +16,8 @@ use lib.ListN.{length}
 use Rattle.format.specs.declared.Block.{Block}
 use Rattle.format.specs.declared.Column.{Column}
 use Rattle.format.specs.declared.ColumnStats.{ColumnStats}
-use Rattle.format.specs.declared.Spelling.{Spelling}
 use Rattle.format.specs.Opening.{Loaded, opened, column_in}
 use Rattle.format.specs.Outcome.{Outcome, how_many}
-use Rattle.format.specs.Replaying.{Report}
 use Rattle.format.specs.Sheets.{opened_under}
 use Rattle.format.specs.Stats.{stated}
 use Rattle.format.specs.Writing.{written}
@@ -50,7 +50,7 @@ lists_determined o before r r' refusal refusal' after after' p q =
     (a.0, a.1, p.list ∙ sym q.list)
 
 -- an opened column
-describes_determined : (o : Outcome (Column × Spelling)) (column : List ℕ) (r r' : ℕ) (refusal refusal' after after' : List ℕ) → Describes o r refusal column after → Describes o r' refusal' column after'
+describes_determined : (o : Outcome (Column × (Option ℕ))) (column : List ℕ) (r r' : ℕ) (refusal refusal' after after' : List ℕ) → Describes o r refusal column after → Describes o r' refusal' column after'
     → (r ≡ r') × (refusal ≡ refusal') × (after ≡ after')
 describes_determined o column r r' refusal refusal' after after' p q =
     (p.result_is ∙ sym q.result_is, p.refusal_is ∙ sym q.refusal_is, p.column_is ∙ sym q.column_is)

@@ -1,11 +1,12 @@
 -- A column, or a kind, that is made of numbers, and what is done with it; of numbers that are none what is done leaves lent memory as it was.
 --     by_number                  a row is read by the block of its number
 --     lists                      what is done with a column decides, with a lent list
---     listed                     what was written is told
 --     lookup_still, run_still    no rows are found or decoded in a column of no rows
---     opens                      what was opened is described
 --     judges                     the verdict on values of a kind
 -- Assumes nothing.
+use Rattle.format.specs.declared.Refusal.{Refusal}
+use Rattle.format.specs.declared.Mismatch.{Mismatch}
+use Rattle.std.specs.Prelude.{Result, Ok, Err}
 use Prim.Native.Nat.{ℕ, zero, suc, ◌+◌, ◌-◌, ◌/◌, ◌^◌, ◌<◌, min}
 use mathlib.Core.Path.{◌≡◌, refl, ap, ◌∙◌, subst}
 use mathlib.Core.Bool.{Bool, true, false, ◌&&◌, and-eq-true_iff}
@@ -15,35 +16,29 @@ use lib.Dec.{ltb, leb}
 use lib.ListN.{length, get_or}
 use borrow.Author.Tests.{le-leb, lt-leb, ltb-true}
 use Rattle.format.specs.declared.Block.{Block}
-use Rattle.format.specs.declared.Checked.{Checked}
 use Rattle.format.specs.declared.Codec.{Codec}
 use Rattle.format.specs.declared.Codec.TheVariants.{Linear, Blockwise}
 use Rattle.format.specs.declared.Column.{Column}
 use Rattle.format.specs.declared.Kind.{Kind}
 use Rattle.format.specs.declared.Line.{Line}
-use Rattle.format.specs.declared.Opened.{Opened}
-use Rattle.format.specs.Calls.{StoresAs, OpenedAs}
+use Rattle.format.specs.Calls.{StoresAs}
 use Rattle.format.specs.Checking.{checked}
 use Rattle.format.specs.Lookup.{looked_up, all_read, rows_passing}
-use Rattle.format.specs.Opening.{Loaded, table_in}
+use Rattle.format.specs.Opening.{table_in}
 use Rattle.format.specs.Outcome.{Outcome, Outcome.value, ◌>>=◌, ◌>>◌, demand, how_many, stored}
 use Rattle.format.specs.Reading.{block_at, place_in, row_fits, fits, packed_of, value_in, row_in, row_at}
-use Rattle.format.specs.Refusals.{opened_meaning, checked_meaning}
+use Rattle.format.specs.Refusals.{checked_meaning, answered_by}
 use Rattle.format.specs.Runs.{decoded, read_run}
 use Rattle.format.specs.Sheets.{opened_under, under_sheet}
 use Rattle.format.specs.Typed.{stored_as}
 use Rattle.format.specs.Word.{mod_add}
 use Rattle.table_asked.specs.Checked.{CheckedAs}
-use Rattle.c_numbers.specs.declared.Made.{Made}
-use Rattle.c_numbers.specs.declared.Made.TheVariants.{Column as MadeColumn, Refused as NotMade}
-use Rattle.c_numbers.specs.declared.kinds.Known.{Known}
-use Rattle.c_numbers.specs.declared.kinds.Known.TheVariants.{Kind as KnownKind, Refused as NotKnown}
 use Rattle.c_answers.specs.Checking.{verdict_numbers}
 use Rattle.c_numbers.specs.Explaining.{Tells}
-use Rattle.c_numbers.specs.Kinds.{kind_from, known_meaning, kind_of, sheet_of}
-use Rattle.c_numbers.specs.Numbers.{after, column_with, codec_from, counts_fit, column_from, made_meaning, no_column, column_of, Answers, Describes}
+use Rattle.c_numbers.specs.Kinds.{kind_from, kind_of, sheet_of}
+use Rattle.c_numbers.specs.Numbers.{after, column_with, codec_from, counts_fit, column_from, no_column, column_of, Answers}
 use Rattle.c_row.specs.Short.{row_of}
-use Rattle.hulemartob.specs.Calls.{row_from, Lists, Loads, Judges}
+use Rattle.hulemartob.specs.Calls.{row_from, Lists, Judges}
 
 -- ---- columns
 
@@ -80,14 +75,14 @@ module _ (ns : List ℕ) (t : List Block) (s : List ℕ) (r k : ℕ) (number : g
   by_number {b} {result} {two} is a =
       subst (λ (o : Outcome ℕ). Answers o result two) (ap (λ (d : Block). row_of ns (length t) d s r) is ∙ by_counts (counts_fit ns) refl) a
 
-pub lists : (k : Column → Outcome (List ℕ)) (ns : List ℕ) (made : Made) → made_meaning made ≡ column_from ns → ((l : List ℕ) → stored (k no_column) l ≡ l) → {c : Column} → c ≡ column_of made
-    → {said : Outcome ℕ} {result : ℕ} {two old new : List ℕ} → StoresAs (k c) said old new → Answers (after (made_meaning made) said) result two → Lists (column_from ns >>= k) result two old new
-lists k ns (MadeColumn d) means still is {said} {result} {two} {old} s a =
+pub lists : (k : Column → Outcome (List ℕ)) (ns : List ℕ) (made : Result Column Refusal) → answered_by made ≡ column_from ns → ((l : List ℕ) → stored (k no_column) l ≡ l) → {c : Column} → c ≡ column_of made
+    → {said : Outcome ℕ} {result : ℕ} {two old new : List ℕ} → StoresAs (k c) said old new → Answers (after (answered_by made) said) result two → Lists (column_from ns >>= k) result two old new
+lists k ns (Ok d) means still is {said} {result} {two} {old} s a =
     record {
       answers = subst (λ (o : Outcome ℕ). Answers o result two) (s.answer ∙ ap (λ (c : Column). how_many (k c)) is ∙ ap (λ (o : Outcome Column). how_many (o >>= k)) means) a;
       list = s.list ∙ ap (λ (c : Column). stored (k c) old) is ∙ ap (λ (o : Outcome Column). stored (o >>= k) old) means;
     }
-lists k ns (NotMade r) means still is {said} {result} {two} {old} s a =
+lists k ns (Err r) means still is {said} {result} {two} {old} s a =
     record {
       answers = subst (λ (o : Outcome ℕ). Answers o result two) (ap (λ (o : Outcome Column). how_many (o >>= k)) means) a;
       list = s.list ∙ ap (λ (c : Column). stored (k c) old) is ∙ still old ∙ ap (λ (o : Outcome Column). stored (o >>= k) old) means;
@@ -109,16 +104,6 @@ run_still read first zero l = at_end (leb (first + zero) 0)
     at_end false = refl
 run_still read first (suc n) l = rw (lt-leb (first + suc n) 0 (omega arith))
 
--- ---- writing
-
-pub listed : {o : Outcome (List ℕ)} {said : Outcome ℕ} {n : ℕ} {two before after : List ℕ} → StoresAs o said before after → Answers said n two → Lists o n two before after
-listed {o} {said} {n} {two} w t = record { answers = subst (λ (x : Outcome ℕ). Answers x n two) w.answer t; list = w.list }
-
--- ---- opening
-
-pub opens : {o : Outcome Loaded} {a : Opened} {result : ℕ} {two column column' : List ℕ} {table table' : List Block} → OpenedAs o a table table' → Describes (opened_meaning a) result two column column' → Loads o result two column column' table table'
-opens {o} {a} {result} {two} {column} {column'} p d = record { describes = subst (λ x. Describes x result two column column') p.answer d; table_is = p.table }
-
 -- ---- kinds
 
 module _ (n sheet : ℕ) (s xs : List ℕ) (room : ℕ) where
@@ -129,23 +114,23 @@ module _ (n sheet : ℕ) (s xs : List ℕ) (room : ℕ) where
   abbrev blocks : Kind → Outcome (List Block)
   blocks kind = table_in (opened_under sheet s room)
 
-  module _ {r : Checked} {two verdict verdict' : List ℕ} {table table' : List Block} where
-    judged : (known : Known) → known_meaning known ≡ kind_from n → CheckedAs (opened_under (sheet_of known sheet) s room) s (stored_as (kind_of known) xs) r table table'
-        → Tells (after (known_meaning known) (value (verdict_numbers (checked_meaning r)))) two verdict verdict' → Judges n sheet s xs room two verdict verdict' table table'
+  module _ {r : Result (Unit {0}) Mismatch} {two verdict verdict' : List ℕ} {table table' : List Block} where
+    judged : (known : Result Kind Refusal) → answered_by known ≡ kind_from n → CheckedAs (opened_under (sheet_of known sheet) s room) s (stored_as (kind_of known) xs) r table table'
+        → Tells (after (answered_by known) (value (verdict_numbers (checked_meaning r)))) two verdict verdict' → Judges n sheet s xs room two verdict verdict' table table'
     unfolding under_sheet
-    judged (KnownKind kind) means c t =
+    judged (Ok kind) means c t =
         record {
           tells = subst (λ (o : Outcome (List ℕ)). Tells o two verdict verdict') (ap (λ v. value (verdict_numbers v)) c.answer ∙ ap (λ (o : Outcome Kind). o >>= judge) means) t;
           table_is = c.table ∙ ap (λ (o : Outcome Kind). stored (o >>= blocks) table) means;
         }
-    judged (NotKnown q) means c t =
+    judged (Err q) means c t =
         record {
           tells = subst (λ (o : Outcome (List ℕ)). Tells o two verdict verdict') (ap (λ (o : Outcome Kind). o >>= judge) means) t;
           table_is = c.table ∙ ap (λ (o : Outcome Kind). stored (o >>= blocks) table) means;
         }
 
-    pub judges : (known : Known) → known_meaning known ≡ kind_from n → (kind : Kind) → kind ≡ kind_of known → (under : ℕ) → under ≡ sheet_of known sheet → CheckedAs (opened_under under s room) s (stored_as kind xs) r table table'
-        → Tells (after (known_meaning known) (value (verdict_numbers (checked_meaning r)))) two verdict verdict' → Judges n sheet s xs room two verdict verdict' table table'
+    pub judges : (known : Result Kind Refusal) → answered_by known ≡ kind_from n → (kind : Kind) → kind ≡ kind_of known → (under : ℕ) → under ≡ sheet_of known sheet → CheckedAs (opened_under under s room) s (stored_as kind xs) r table table'
+        → Tells (after (answered_by known) (value (verdict_numbers (checked_meaning r)))) two verdict verdict' → Judges n sheet s xs room two verdict verdict' table table'
     judges known means kind is under at c t =
         judged known means
         (subst (λ (u : ℕ). CheckedAs (opened_under u s room) s (stored_as (kind_of known) xs) r table table') at (subst (λ (k : Kind). CheckedAs (opened_under under s room) s (stored_as k xs) r table table') is c)) t

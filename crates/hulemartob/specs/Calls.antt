@@ -1,5 +1,6 @@
 -- The calls of a C or a Rust caller, who hands columns and kinds over as numbers.
 -- Assumes nothing.
+use Rattle.format.specs.declared.Report.{Report}
 use Rattle.std.specs.Prelude.{ℕ, ◌≡◌, List, [], ◌∷◌}
 use Rattle.format.specs.declared.Block.{Block}
 use Rattle.format.specs.declared.Column.{Column}
@@ -11,7 +12,7 @@ use Rattle.format.specs.Lookup.{looked_up, within}
 use Rattle.format.specs.Opening.{Loaded, column_in, table_in}
 use Rattle.format.specs.Outcome.{Outcome, Outcome.value, ◌>>=◌, how_many, stored}
 use Rattle.format.specs.Reading.{row_at}
-use Rattle.format.specs.Replaying.{Report, replayed}
+use Rattle.format.specs.Replaying.{replayed}
 use Rattle.format.specs.Runs.{decoded}
 use Rattle.format.specs.Sheets.{opened_under}
 use Rattle.format.specs.Typed.{stored_as}

@@ -1,10 +1,9 @@
 // What each byte is, and the rows that it names.
 ghost use Rattle.hulemartob.specs.Exports.{PartAtPromise, PartsPromise, RowsAtPromise};
 
-use byte_part::PartRead;
 use byte_part::naming::{block_of, which_part};
 use c_numbers::parts::rows_told;
-use c_numbers::{ACCEPTED, Made, column_from, column_of, told};
+use c_numbers::{ACCEPTED, column_from, column_of, told};
 use format::Block;
 
 // The part that holds the byte at an offset.
@@ -19,14 +18,14 @@ pub extern "C" fn hulemartob_part_at(
     ensures { PartAtPromise column.now bytes.now offset refusal.new part.old part.new }
 {
     let opened = match column_from(column) {
-        Made::Column(opened) => opened,
-        Made::Refused(q) => {
+        Ok(opened) => opened,
+        Err(q) => {
             *refusal = told(q);
             return;
         }
     };
     match byte_part::part_at(opened, bytes, offset) {
-        PartRead::Part(found) => {
+        Ok(found) => {
             let name = found.name;
             let which = which_part(name);
             let block = block_of(name) as u64;
@@ -39,7 +38,7 @@ pub extern "C" fn hulemartob_part_at(
             ];
             *refusal = ACCEPTED;
         }
-        PartRead::Refused(q) => {
+        Err(q) => {
             *refusal = told(q);
         }
     }

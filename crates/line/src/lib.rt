@@ -6,10 +6,9 @@ ghost use Rattle.format.specs.Outcome.{Wrote};
 ghost use Rattle.format.specs.Word.{mod_sub};
 ghost use Rattle.format.specs.Line.{line_at, slope_of, nearer, intercept_of, trained, spell_line};
 ghost use Rattle.format.specs.Opening.{read_fields};
-ghost use Rattle.line.specs.Meaning.{fields_meaning};
+ghost use Rattle.format.specs.Refusals.{answered_by};
 
 use format::{Fields, Line, Refusal};
-use vint::VintRead;
 
 // The line at x.
 pub fn eval(l: Line, x: u64) -> u64
@@ -69,11 +68,9 @@ fn intercept_of(ys: &[u64], slope: u64) -> u64
     };
     let base = word::sub(ys[0], 0xffff_ffff);
     let mut best = residual(line, 0, ys[0]);
-    let mut i = 1;
-    while i < ys.len() {
+    for i in 1..ys.len() {
         let offset = residual(line, i as u64, ys[i]);
         best = nearer_of(base, best, offset);
-        i += 1;
     }
     best
 }
@@ -111,43 +108,29 @@ pub fn write(out: &mut [u8], at: usize, l: Line) -> usize
     vint::write(out, next, l.intercept)
 }
 
-// What reading a line and its width finds.
-#[derive(Clone, Copy)]
-pub enum FieldsRead {
-    Fields(Fields),
-    Refused(Refusal),
-}
-
 // The line and the width byte at an offset.
-pub fn fields_read(s: &[u8], at: usize) -> FieldsRead
-    ensures { fields_meaning result ≡ read_fields s.now at }
+#[tactic(auto, unfolding(format::specs::Opening::read_fields, format::specs::Opening::read_width))]
+pub fn fields_read(s: &[u8], at: usize) -> Result<Fields, Refusal>
+    ensures { answered_by result ≡ read_fields s.now at }
 {
-    let slope = match vint::read(s, at) {
-        VintRead::Value(v) => v,
-        VintRead::Refused(r) => return FieldsRead::Refused(r),
-    };
-    let intercept = match vint::read(s, slope.next) {
-        VintRead::Value(v) => v,
-        VintRead::Refused(r) => return FieldsRead::Refused(r),
-    };
+    let slope = vint::read(s, at)?;
+    let intercept = vint::read(s, slope.next)?;
     let place = intercept.next;
     if s.len() <= place {
-        return FieldsRead::Refused(Refusal::BadField { offset: place });
+        return Err(Refusal::BadField { offset: place });
     }
     let bits = s[place];
     if bits > 56 && bits != 64 {
-        return FieldsRead::Refused(Refusal::IllegalWidth { offset: place });
+        return Err(Refusal::IllegalWidth { offset: place });
     }
-    let first = slope.spelling;
-    let second = intercept.spelling;
-    FieldsRead::Fields(Fields {
+    Ok(Fields {
         line: Line {
             slope: slope.value,
             intercept: intercept.value,
         },
         bits,
         next: place + 1,
-        spelling: first.or_later(second),
+        longer: slope.longer.or(intercept.longer),
     })
 }
 

@@ -1,6 +1,5 @@
 // Reading: what is left to open once the head is read, and a row of an opened column.
 ghost use Rattle.std.specs.Prelude.{◌≡◌, true, ℕ, ◌+◌, ◌^◌, ◌≤◌, length};
-ghost use Rattle.format.specs.Refusals.{opened_meaning, row_meaning};
 ghost use Rattle.format.specs.Opening.{open_linear, column_in};
 ghost use Rattle.format.specs.Word.{mod_add};
 ghost use Rattle.format.specs.Packing.{legal, unpack};
@@ -9,44 +8,48 @@ ghost use Rattle.format.specs.Reading.{packed_of, value_in, value_at};
 ghost use Rattle.format.specs.Runs.{read_run, filled_to};
 ghost use Rattle.format.specs.declared.Block.{Block};
 ghost use Rattle.linear.specs.Reader.{Readable, bounded};
+ghost use Rattle.format.specs.Refusals.{answered_by};
 
-use format::{Codec, Column, ColumnRow, Head, Line, Opened, Refusal, RowRead};
-use line::FieldsRead;
+use format::{Codec, Column, ColumnRow, Head, Line, Refusal};
 
 // The column of a head: the line and the width come behind it, and then the area.
-pub fn load(bytes: &[u8], head: Head) -> Opened
-    ensures { opened_meaning result ≡ column_in (open_linear bytes.now head) }
+#[tactic(auto, unfolding(format::specs::Opening::open_linear))]
+pub fn load(bytes: &[u8], head: Head) -> Result<(Column, Option<usize>), Refusal>
+    ensures { answered_by result ≡ column_in (open_linear bytes.now head) }
 {
-    let fields = match line::fields_read(bytes, head.next) {
-        FieldsRead::Fields(f) => f,
-        FieldsRead::Refused(r) => return Opened::Refused(r),
-    };
+    let fields = line::fields_read(bytes, head.next)?;
     let size = bitpacker::packed_len(head.rows as usize, fields.bits);
     if !word::ends_within(fields.next, size, bytes.len()) {
-        return Opened::Refused(Refusal::AreaShort);
+        return Err(Refusal::AreaShort);
     }
-    let line = fields.line;
-    let column = head.column(fields.next, size, Codec::Linear(line, fields.bits));
-    let first = head.spelling;
-    let second = fields.spelling;
-    Opened::Column(column, first.or_later(second))
+    let codec = Codec::Linear(fields.line, fields.bits);
+    Ok((
+        head.column(fields.next, size, codec),
+        head.longer.or(fields.longer),
+    ))
 }
 
 // Internal: asks for a Linear column of this line and this legal width, whose maximum has 64 bits and whose area starts within the bytes. The value of a row, which no block has a part in.
-pub fn get_val(column: Column, line: Line, bits: u8, bytes: &[u8], row: ColumnRow) -> RowRead
+pub fn get_val(
+    column: Column,
+    line: Line,
+    bits: u8,
+    bytes: &[u8],
+    row: ColumnRow,
+) -> Result<u64, Refusal>
     requires { Readable column line bits bytes.now }
-    ensures { (block : Block) → row_meaning result ≡ value_in column.codec column block row.0 (packed_of column block bytes.now row.0) }
+    ensures { (block : Block) → answered_by result ≡ value_in column.codec column block row.0 (packed_of column block bytes.now row.0) }
 {
     let start = column.start;
     let number = bitpacker::get(&bytes[start..], bits, row.0);
     let value = word::add(line::eval(line, row.0 as u64), number);
     if value < column.minimum {
-        return RowRead::Refused(Refusal::OutOfBounds { row: row.0 });
+        return Err(Refusal::OutOfBounds { row: row.0 });
     }
     if column.minimum + column.gcd * column.count < value {
-        return RowRead::Refused(Refusal::OutOfBounds { row: row.0 });
+        return Err(Refusal::OutOfBounds { row: row.0 });
     }
-    RowRead::Value(value)
+    Ok(value)
 }
 
 // Internal: asks for bounds in order. The values of the rows from `first` on, by a line and the numbers that stand at a width in an area, up to the first that lies outside the bounds.

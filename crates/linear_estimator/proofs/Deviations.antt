@@ -2,16 +2,22 @@
 --     deviations-length, deviation_at_lem                          one for each value
 --     Spreading, spreading_starts, spreading_next, spreading_ends
 --                                                              the walk for the least and the greatest
---     Copying, copying_starts, copying_next, copying_ends      the walk that copies the first 512 values
+--     made_first                                                   a list that a function made is the first values
 --     low_high, fit_is                                         the fit from a spread
 -- Assumes nothing.
-use mathlib.Core.Path.{◌≡◌, refl, sym, ap, ◌∙◌}
+use mathlib.Core.Logic.{⊎_elim}
+use mathlib.Core.Path.{◌≡◌, sym, ap, ◌∙◌, subst}
 use mathlib.Core.List.{List}
-use Prim.Native.Nat.{ℕ, ◌+◌, ◌-◌, ◌≤◌, ◌<◌, min, max}
-use native.Mathlib.Numerals.{add-one}
+use Prim.Native.Nat.{ℕ, zero, suc, ◌+◌, ◌-◌, ◌^◌, ◌≤◌, ◌<◌, min, max}
+use native.Mathlib.Nat.{eq-or-lt_of_le}
 use native.Mathlib.Omega.{arith}
-use lib.ListN.{length, get_or, take, drop, set, length-map, length-set}
-use lib.Seq.{take-suc, take-suc-set, take_all}
+use lib.ListN.{length, get_or, take, drop, length-map}
+use lib.Seq.{get_or-take}
+use Rattle.std.proofs.lemmas.Grind.{same_number_lists}
+use Rattle.std.proofs.lemmas.List.{length-take-le}
+use Rattle.std.specs.Array.{IsFromFnResult, IsFromFnResultFrom}
+use Rattle.std.specs.Fn.{Called}
+use denote.Param.Members.{Mut}
 use Rattle.format.specs.declared.Line.{Line}
 use Rattle.format.specs.Word.{mod_add, mod_sub}
 use Rattle.format.specs.Packing.{width}
@@ -21,6 +27,7 @@ use Rattle.format.specs.Bodies.{half, deviations, first_line, linear_line, linea
 use Rattle.format.proofs.Lists.{map_at}
 use Rattle.format.proofs.Folds.{fold_step, fold_end, reduce_start}
 use Rattle.format.proofs.Lines.{residuals-length, residual_at}
+use Rattle.format.proofs.Words.{add_below}
 use Rattle.stats.proofs.Described.{ordered}
 use Rattle.linear_estimator.specs.declared.Spread.{Spread}
 use Rattle.linear_estimator.specs.Writer.{Spreads, Fits}
@@ -47,11 +54,17 @@ pub record Spreading (l : Line) (vs : List ℕ) (low high i : ℕ) : Type 0 wher
   pub lows : fold_from min low (drop i (deviations l vs)) ≡ least (deviations l vs)
   pub highs : fold_from max high (drop i (deviations l vs)) ≡ greatest (deviations l vs)
 
-pub spreading_starts : (l : Line) (vs : List ℕ) (d : ℕ) → 0 < length vs → d ≡ deviation_at l 0 (get_or vs 0 0) → Spreading l vs d d 1
-spreading_starts l vs d h e =
-    let is : d ≡ get_or (deviations l vs) 0 0 = e ∙ sym (deviation_at_lem l vs 0 h) in
-    let some : 0 < length (deviations l vs) = rw deviations-length h in
-    record { lows = rw is (reduce_start min (deviations l vs) some); highs = rw is (reduce_start max (deviations l vs) some) }
+pub spreading_starts : (l : Line) (vs : List ℕ) → 0 < length vs → Spreading l vs (2 ^ 64 - 1) 0 0
+spreading_starts l vs h =
+    let ds = deviations l vs in
+    let some : 0 < length ds = rw deviations-length h in
+    let small : get_or ds 0 0 < 2 ^ 64 = rw (deviation_at_lem l vs 0 h) (add_below _ _) in
+    let least_of : min (2 ^ 64 - 1) (get_or ds 0 0) ≡ get_or ds 0 0 = omega arith in
+    let greatest_of : max 0 (get_or ds 0 0) ≡ get_or ds 0 0 = omega arith in
+    record {
+      lows = fold_step min (2 ^ 64 - 1) ds 0 some ∙ rw least_of (reduce_start min ds some);
+      highs = fold_step max 0 ds 0 some ∙ rw greatest_of (reduce_start max ds some);
+    }
 
 module _ {l : Line} {vs : List ℕ} {low high i : ℕ} (s : Spreading l vs low high i) where
   pub spreading_next : {d a b : ℕ} → i < length vs → d ≡ deviation_at l i (get_or vs i 0) → a ≡ min low d → b ≡ max high d → Spreading l vs a b (i + 1)
@@ -70,32 +83,24 @@ module _ {l : Line} {vs : List ℕ} {low high i : ℕ} (s : Spreading l vs low h
       let done : length ds ≤ i = rw deviations-length h in
       record { low = sym (fold_end min low ds i done) ∙ s.lows; high = sym (fold_end max high ds i done) ∙ s.highs }
 
--- ---- the walk that copies the first 512 values
+-- ---- the first 512 values
 
--- the first i stand in the buffer
-pub record Copying (vs : List ℕ) (i : ℕ) (buffer : List ℕ) : Type 0 where
-  pub within : i ≤ 512
-  pub size : length buffer ≡ 512
-  pub done : take i buffer ≡ take i vs
+-- a function that is called at one place after another, and stays itself, made a list of its answers
+module _ {F : Type 0} {g : Mut F (ℕ × Unit {0}) ℕ} {f : F} (answer : ℕ → ℕ) (pure : (i y : ℕ) (q : F) → Called g f (i, tt) y q → (q ≡ f) × (y ≡ answer i)) (ys : List ℕ) where
+  answers : (i n : ℕ) → IsFromFnResultFrom g f ys i n → (j : ℕ) → i ≤ j → j < i + n → get_or ys j 0 ≡ answer j
+  answers i zero made j low high = absurd (omega arith)
+  answers i (suc n) (q, y, is, called, rest) j low high =
+      ⊎_elim
+      (λ (e : i ≡ j). rw (← e) (is.1 0 ∙ (pure i y q called).1))
+      (λ (less : i < j). answers (i + 1) n (subst (λ (p : F). IsFromFnResultFrom g p ys (i + 1) n) (pure i y q called).0 rest) j (omega arith) (omega arith))
+      (eq-or-lt_of_le low)
 
-pub copying_starts : (vs buffer : List ℕ) → length buffer ≡ 512 → Copying vs 0 buffer
-copying_starts vs buffer e = record { within = omega arith; size = e; done = refl }
-
-module _ {vs : List ℕ} {i : ℕ} {buffer : List ℕ} (long : 512 ≤ length vs) (s : Copying vs i buffer) where
-  pub copying_next : i < 512 → Copying vs (i + 1) (set buffer i (get_or vs i 0))
-  copying_next h =
-      let inside : i < length buffer = omega (arith, s.size) in
-      let there : i < length vs = omega arith in
-      record {
-        within = omega arith;
-        size = length-set buffer i (get_or vs i 0) ∙ s.size;
-        done = rw (add-one i, take-suc-set buffer i (get_or vs i 0) inside, s.done, take-suc vs i 0 there);
-      }
-
-  pub copying_ends : 512 ≤ i → buffer ≡ take 512 vs
-  copying_ends h =
-      let all : i ≡ 512 = omega (arith, s.within) in
-      sym (take_all i buffer (omega (arith, s.size))) ∙ s.done ∙ ap (λ (k : ℕ). take k vs) all
+  pub made_first : (vs : List ℕ) (n : ℕ) → IsFromFnResult g f ys n → n ≤ length vs → ((i : ℕ) → i < n → answer i ≡ get_or vs i 0) → ys ≡ take n vs
+  made_first vs n made long is =
+      same_number_lists ys (take n vs) (made.long ∙ sym (length-take-le n vs long))
+      (λ (k : ℕ) (h : k < length ys).
+      let inside : k < n = omega (arith, made.long) in
+      answers 0 n made.each k (omega arith) (omega arith) ∙ is k inside ∙ sym (get_or-take n vs k 0 inside))
 
 -- ---- the fit from a spread
 

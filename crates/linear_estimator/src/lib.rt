@@ -15,6 +15,7 @@ ghost use Rattle.linear_estimator.specs.Writer.{Spreads, Fits};
 
 use bitpacker::BitPacker;
 use format::{ColumnStats, Kind, Line};
+use std::array;
 
 // 2^63 - 1, by which residuals are moved up before they are compared: one a little below the line stays small too.
 const HALF: u64 = 0x7fff_ffff_ffff_ffff;
@@ -45,17 +46,13 @@ fn spread_of(kind: Kind, values: &[u64], line: Line) -> Spread
     requires { 0 < length values.now }
     ensures { Spreads line (stored_as kind values.now) result }
 {
-    let rows = values.len();
-    let first = deviation(line, 0, monotonic_mapping::stored_of(kind, values[0]));
-    let mut low = first;
-    let mut high = first;
-    let mut i = 1;
-    while i < rows {
-        let v = monotonic_mapping::stored_of(kind, values[i]);
+    let mut low = u64::MAX;
+    let mut high = 0;
+    for (i, value) in values.iter().enumerate() {
+        let v = monotonic_mapping::stored_of(kind, *value);
         let d = deviation(line, i as u64, v);
         low = word::lesser(low, d);
         high = word::larger(high, d);
-        i += 1;
     }
     Spread { low, high }
 }
@@ -65,13 +62,7 @@ fn first_line(kind: Kind, values: &[u64]) -> Line
     requires { 512 ≤ length values.now }
     ensures { result ≡ first_line (stored_as kind values.now) }
 {
-    let mut first = [0u64; 512];
-    let mut i = 0;
-    while i < 512 {
-        let v = monotonic_mapping::stored_of(kind, values[i]);
-        first[i] = v;
-        i += 1;
-    }
+    let first: [u64; 512] = array::from_fn(|i| monotonic_mapping::stored_of(kind, values[i]));
     line::train(&first)
 }
 
@@ -105,13 +96,10 @@ fn pack_residuals(kind: Kind, values: &[u64], line: Line, bits: u8, out: &mut [u
     requires { Packable bits (residuals line (stored_as kind values.now)) out.old }
     ensures { out.new ≡ packed bits (residuals line (stored_as kind values.now)) ++ drop (bytes_for (bits * length values.now)) out.old }
 {
-    let rows = values.len();
     let mut packer = BitPacker::new();
-    let mut i = 0;
-    while i < rows {
-        let v = monotonic_mapping::stored_of(kind, values[i]);
+    for (i, value) in values.iter().enumerate() {
+        let v = monotonic_mapping::stored_of(kind, *value);
         packer = packer.write(out, line::residual(line, i as u64, v), bits);
-        i += 1;
     }
     packer.close(out);
 }

@@ -3,18 +3,16 @@
 --     signed_determined, flag_determined, float_determined
 --     signed_range_determined, flag_range_determined, float_range_determined
 -- Assumes nothing.
+use Rattle.format.specs.declared.Refusal.{Refusal}
+use Rattle.std.specs.Prelude.{Result}
 use Prim.Native.Nat.{ℕ}
 use mathlib.Core.Path.{◌≡◌, sym, ◌∙◌}
 use mathlib.Core.Bool.{Bool}
 use mathlib.Core.List.{List}
 use lib.IntN.{ℤ}
-use Rattle.format.specs.declared.FlagRead.{FlagRead}
-use Rattle.format.specs.declared.FloatRead.{FloatRead}
 use Rattle.format.specs.declared.Kind.{Kind}
 use Rattle.format.specs.declared.Range.{Range}
-use Rattle.format.specs.declared.RowRead.{RowRead}
-use Rattle.format.specs.declared.SignedRead.{SignedRead}
-use Rattle.format.proofs.Answers.{signed_injective, flag_injective, float_injective}
+use Rattle.format.proofs.Answers.{answered_injective}
 use Rattle.monotonic_mapping.specs.Calls.{StoredOfAs, SignedOfAs, FlagOfAs, FloatOfAs, WordsOfAs, SignedReadAs, FlagReadAs, FloatReadAs, SignedRangeAs, FlagRangeAs, FloatRangeAs}
 
 -- one value
@@ -38,14 +36,14 @@ words_as_determined kind list after after' p q = p ∙ sym q
 
 -- a row's answer
 
-pub signed_determined : (read : RowRead) (a b : SignedRead) → SignedReadAs read a → SignedReadAs read b → a ≡ b
-signed_determined read a b p q = signed_injective a b (p ∙ sym q)
+pub signed_determined : (read : Result ℕ Refusal) (a b : Result ℤ Refusal) → SignedReadAs read a → SignedReadAs read b → a ≡ b
+signed_determined read a b p q = answered_injective a b (p ∙ sym q)
 
-pub flag_determined : (read : RowRead) (a b : FlagRead) → FlagReadAs read a → FlagReadAs read b → a ≡ b
-flag_determined read a b p q = flag_injective a b (p ∙ sym q)
+pub flag_determined : (read : Result ℕ Refusal) (a b : Result Bool Refusal) → FlagReadAs read a → FlagReadAs read b → a ≡ b
+flag_determined read a b p q = answered_injective a b (p ∙ sym q)
 
-pub float_determined : (read : RowRead) (a b : FloatRead) → FloatReadAs read a → FloatReadAs read b → a ≡ b
-float_determined read a b p q = float_injective a b (p ∙ sym q)
+pub float_determined : (read : Result ℕ Refusal) (a b : Result ℕ Refusal) → FloatReadAs read a → FloatReadAs read b → a ≡ b
+float_determined read a b p q = answered_injective a b (p ∙ sym q)
 
 -- a range
 

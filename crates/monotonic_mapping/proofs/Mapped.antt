@@ -1,57 +1,22 @@
--- A list of stored numbers that is mapped in place, and what its words mean.
---     Mapping, mapping_starts, mapping_more, mapping_ends     the loop's invariant, for any mapping
+-- The words of stored numbers, and what they mean.
 --     flag_word, word_arm                                     the word of a bool, and of a kind that is told
 --     plain_words                                             plain numbers are their own words
 --     word_means                                              the word of a stored number is lent for the value that it reads as
 -- Assumes nothing.
 use mathlib.Core.Path.{◌≡◌, refl, sym, ap, ◌∙◌}
 use mathlib.Core.Bool.{Bool, true, false}
-use mathlib.Core.Logic.{⊎_elim}
-use mathlib.Core.List.{List, [], ◌∷◌, map}
-use Prim.Native.Nat.{ℕ, ◌+◌, ◌^◌, ◌≤◌, ◌<◌, min}
-use native.Mathlib.Nat.{eq-or-lt_of_le, not-suc-le-zero, le_refl}
+use mathlib.Core.List.{List, [], ◌∷◌}
+use Prim.Native.Nat.{ℕ, ◌^◌, ◌<◌, min}
 use native.Mathlib.Omega.{arith}
 use lib.Dec.{ltb}
-use lib.ListN.{length, get_or, set, length-set, length-map}
-use lib.Seq.{get_or-set_same, get_or-set_other, ext_get_or}
 use borrow.Author.Tests.{ltb-true, ltb-false}
 use Rattle.format.specs.declared.Kind.{Kind}
 use Rattle.format.specs.declared.Kind.TheVariants.{U64, I64, Date, Bool as Flag, F64}
 use Rattle.format.specs.Typed.{stored_signed, signed_bits, signed_of, stored_flag, flag_of, reading_of, meant}
 use Rattle.format.specs.Word.{mod_add}
 use Rattle.format.specs.Outcome.{pick}
-use Rattle.format.proofs.Lists.{map_at}
 use Rattle.format.proofs.Mappings.{bits_stored, bits_in, signed_back}
 use Rattle.monotonic_mapping.specs.Words.{word_of, words_as}
-
--- ---- the loop
-
-module _ (f : ℕ → ℕ) (before : List ℕ) where
-  -- the entries before i are mapped, and those from i on are as they were
-  pub record Mapping (list : List ℕ) (i : ℕ) : Type 0 where
-    pub kept : length list ≡ length before
-    pub ahead : (j : ℕ) → i ≤ j → get_or list j 0 ≡ get_or before j 0
-    pub mapped : (j : ℕ) → j < i → get_or list j 0 ≡ f (get_or before j 0)
-
-  pub mapping_starts : Mapping before 0
-  mapping_starts = record { kept = refl; ahead = λ j h. refl; mapped = λ j h. absurd (not-suc-le-zero h) }
-
-  module _ {list : List ℕ} {i : ℕ} (m : Mapping list i) where
-    pub mapping_more : {v : ℕ} → i < length list → v ≡ f (get_or list i 0) → Mapping (set list i v) (i + 1)
-    mapping_more {v} h e = record {
-      kept = simp length-set m.kept;
-      ahead = λ (j : ℕ) (k : i + 1 ≤ j). get_or-set_other list i j v 0 (λ (q : j ≡ i). omega arith) ∙ m.ahead j (omega arith);
-      mapped = λ (j : ℕ) (k : j < i + 1).
-          ⊎_elim
-          (λ (q : j ≡ i). rw q (get_or-set_same list i v 0 h ∙ e ∙ ap f (m.ahead i (le_refl i))))
-          (λ (less : j < i). get_or-set_other list i j v 0 (λ (q : j ≡ i). omega arith) ∙ m.mapped j less)
-          (eq-or-lt_of_le (omega arith));
-    }
-
-    pub mapping_ends : length list ≤ i → list ≡ map f before
-    mapping_ends h =
-        ext_get_or 0 list (map f before) (m.kept ∙ sym (length-map before f))
-        (λ (j : ℕ) (k : j < length list). m.mapped j (omega arith) ∙ sym (map_at f before j (omega (arith, m.kept))))
 
 -- ---- one word
 

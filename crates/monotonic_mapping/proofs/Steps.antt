@@ -1,7 +1,6 @@
 -- The steps of the code on signed numbers: v + 2^63 and back, never outside the range of an i64.
 --     up, climb                 a number that is not negative, and one that is, to its stored number
 --     descend, descend_high     a stored number back
---     range_of, kept            numbers that are handed on are read back from their bits, which changes nothing
 -- Assumes nothing.
 use mathlib.Core.Path.{◌≡◌, refl, sym, ap, ◌∙◌, subst}
 use mathlib.Core.Bool.{true, false, true≢false, false≢true}
@@ -15,7 +14,7 @@ use lib.Signed.{mag, le_z, non_neg}
 use mir.Syntax.{w64}
 use mir.Val.{Fits, SFits, to_z, of_z}
 use mir.Facts.{to_z-of_z, to_z_pos}
-use Rattle.format.specs.Typed.{stored_signed, signed_of, signed_range}
+use Rattle.format.specs.Typed.{stored_signed, signed_of}
 use Rattle.format.proofs.Mappings.{sub_up, sub_down, stored_positive, stored_negative, signed_high, signed_low}
 
 -- ---- the code's steps on an i64: the machine reads a signed number back from its bits, which changes nothing in range
@@ -123,11 +122,3 @@ descend u h =
 
 pub descend_high : (u : ℕ) → 2 ^ 63 ≤ u → u < 2 ^ 64 → to_z w64 (u - 2 ^ 63) ≡ signed_of u
 descend_high u h k = to_z_pos w64 (omega arith) ∙ sym (signed_high u h)
-
--- ---- numbers that are handed on
-
-pub kept : (v w : ℤ) → mag v < 2 ^ 63 → v ≡ w → back v ≡ w
-kept v w h e = to_z-of_z {w = w64} {z = v} (record { sfits = h }) ∙ e
-
-pub range_of : (low high : ℤ) {a b : ℕ} → SFits w64 low → SFits w64 high → a ≡ stored_signed (back low) → b ≡ stored_signed (back high) → record { low = a; high = b } ≡ signed_range low high
-range_of low high s t e f = rw (e, f, to_z-of_z {w = w64} {z = low} s, to_z-of_z {w = w64} {z = high} t)

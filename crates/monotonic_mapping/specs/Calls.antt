@@ -1,13 +1,10 @@
 -- What each call promises: its answer, or the lent list before and after.
 -- Assumes nothing.
-use Rattle.std.specs.Prelude.{ℕ, ◌≡◌, Bool, List, ℤ}
-use Rattle.format.specs.declared.FlagRead.{FlagRead}
-use Rattle.format.specs.declared.FloatRead.{FloatRead}
+use Rattle.format.specs.declared.Refusal.{Refusal}
+use Rattle.format.specs.Refusals.{answered_by}
+use Rattle.std.specs.Prelude.{ℕ, ◌≡◌, Bool, List, ℤ, Result}
 use Rattle.format.specs.declared.Kind.{Kind}
 use Rattle.format.specs.declared.Range.{Range}
-use Rattle.format.specs.declared.RowRead.{RowRead}
-use Rattle.format.specs.declared.SignedRead.{SignedRead}
-use Rattle.format.specs.Refusals.{row_meaning, signed_meaning, flag_meaning, float_meaning}
 use Rattle.format.specs.Typed.{signed_of, flag_of, float_of, stored_in, read_as, signed_range, flag_range, float_range}
 use Rattle.monotonic_mapping.specs.Words.{words_as}
 
@@ -32,16 +29,16 @@ abbrev pub WordsOfAs : Kind → (list list' : List ℕ) → Type 0
 WordsOfAs kind list list' = list' ≡ words_as kind list
 
 -- `signed`
-abbrev pub SignedReadAs : RowRead → SignedRead → Type 0
-SignedReadAs read r = signed_meaning r ≡ read_as signed_of (row_meaning read)
+abbrev pub SignedReadAs : Result ℕ Refusal → Result ℤ Refusal → Type 0
+SignedReadAs read r = answered_by r ≡ read_as signed_of (answered_by read)
 
 -- `flag`
-abbrev pub FlagReadAs : RowRead → FlagRead → Type 0
-FlagReadAs read r = flag_meaning r ≡ read_as flag_of (row_meaning read)
+abbrev pub FlagReadAs : Result ℕ Refusal → Result Bool Refusal → Type 0
+FlagReadAs read r = answered_by r ≡ read_as flag_of (answered_by read)
 
 -- `float_bits`
-abbrev pub FloatReadAs : RowRead → FloatRead → Type 0
-FloatReadAs read r = float_meaning r ≡ read_as float_of (row_meaning read)
+abbrev pub FloatReadAs : Result ℕ Refusal → Result ℕ Refusal → Type 0
+FloatReadAs read r = answered_by r ≡ read_as float_of (answered_by read)
 
 -- `signed_range`
 abbrev pub SignedRangeAs : (low high : ℤ) → Range → Type 0

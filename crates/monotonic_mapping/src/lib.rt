@@ -8,7 +8,7 @@ ghost use Rattle.monotonic_mapping.specs.Words.{word_of};
 ghost use Rattle.monotonic_mapping.specs.Flips.{is_number, is_flag, is_float, flip, flipped, most_stored};
 ghost use Rattle.monotonic_mapping.specs.Calls.{StoredOfAs, SignedOfAs, FlagOfAs, FloatOfAs, WordsOfAs, SignedReadAs, FlagReadAs, FloatReadAs, SignedRangeAs, FlagRangeAs, FloatRangeAs};
 
-use format::{FlagRead, FloatRead, Kind, Range, RowRead, SignedRead};
+use format::{Kind, Range, Refusal};
 
 // The sign bit.
 const SIGN: u64 = 0x8000_0000_0000_0000;
@@ -31,49 +31,28 @@ fn stored_float(bits: u64) -> u64
 fn is_number(kind: Kind) -> bool
     ensures { result ≡ is_number kind }
 {
-    match kind {
-        Kind::U64 => true,
-        Kind::I64 => false,
-        Kind::Date => false,
-        Kind::Bool => false,
-        Kind::F64 => false,
-    }
+    matches!(kind, Kind::U64)
 }
 
 // Whether they are bools.
 fn is_flag(kind: Kind) -> bool
     ensures { result ≡ is_flag kind }
 {
-    match kind {
-        Kind::U64 => false,
-        Kind::I64 => false,
-        Kind::Date => false,
-        Kind::Bool => true,
-        Kind::F64 => false,
-    }
+    matches!(kind, Kind::Bool)
 }
 
 // Whether they are floats.
 fn is_float(kind: Kind) -> bool
     ensures { result ≡ is_float kind }
 {
-    match kind {
-        Kind::U64 => false,
-        Kind::I64 => false,
-        Kind::Date => false,
-        Kind::Bool => false,
-        Kind::F64 => true,
-    }
+    matches!(kind, Kind::F64)
 }
 
 // What is inverted of a word that is no float: the sign bit, but nothing of a bool.
 fn flip(kind: Kind) -> u64
     ensures { result ≡ flip kind }
 {
-    if is_flag(kind) {
-        return 0;
-    }
-    SIGN
+    if is_flag(kind) { 0 } else { SIGN }
 }
 
 // A word with its bits inverted.
@@ -81,19 +60,17 @@ fn flipped(kind: Kind, x: u64) -> u64
     ensures { result ≡ flipped kind x }
 {
     if is_float(kind) {
-        return stored_float(x);
+        stored_float(x)
+    } else {
+        x ^ flip(kind)
     }
-    x ^ flip(kind)
 }
 
 // The greatest number that is stored.
 fn most_stored(kind: Kind) -> u64
     ensures { result ≡ most_stored kind }
 {
-    if is_flag(kind) {
-        return 1;
-    }
-    u64::MAX
+    if is_flag(kind) { 1 } else { u64::MAX }
 }
 
 // The stored number of a value of a kind, lent as a word.
@@ -155,41 +132,30 @@ fn word_of(kind: Kind, stored: u64) -> u64
 pub fn words_as(kind: Kind, list: &mut [u64])
     ensures { WordsOfAs kind list.old list.new }
 {
-    let mut i = 0;
-    while i < list.len() {
-        list[i] = word_of(kind, list[i]);
-        i += 1;
+    for x in list.iter_mut() {
+        *x = word_of(kind, *x);
     }
 }
 
 // A row's answer as a signed number, or as a date's nanoseconds. Refusals stay as they are.
-pub fn signed(read: RowRead) -> SignedRead
+pub fn signed(read: Result<u64, Refusal>) -> Result<i64, Refusal>
     ensures { SignedReadAs read result }
 {
-    match read {
-        RowRead::Value(v) => SignedRead::Value(signed_of(v)),
-        RowRead::Refused(why) => SignedRead::Refused(why),
-    }
+    Ok(signed_of(read?))
 }
 
 // As a bool.
-pub fn flag(read: RowRead) -> FlagRead
+pub fn flag(read: Result<u64, Refusal>) -> Result<bool, Refusal>
     ensures { FlagReadAs read result }
 {
-    match read {
-        RowRead::Value(v) => FlagRead::Value(flag_of(v)),
-        RowRead::Refused(why) => FlagRead::Refused(why),
-    }
+    Ok(flag_of(read?))
 }
 
 // As a float's bits.
-pub fn float_bits(read: RowRead) -> FloatRead
+pub fn float_bits(read: Result<u64, Refusal>) -> Result<u64, Refusal>
     ensures { FloatReadAs read result }
 {
-    match read {
-        RowRead::Value(v) => FloatRead::Value(float_of(v)),
-        RowRead::Refused(why) => FloatRead::Refused(why),
-    }
+    Ok(float_of(read?))
 }
 
 // ---- looking up

@@ -5,6 +5,7 @@
 --     under_finds, under_table                          a column that a sheet accepts is what opening finds, and so is its table
 --     opened-within                                     an opened column's area ends within the bytes
 -- Assumes nothing.
+use Rattle.std.specs.Prelude.{Option, None}
 use Prim.Native.Nat.{ℕ, zero, suc, ◌≤◌, ◌<◌}
 use mathlib.Core.Path.{◌≡◌, refl, sym, ◌∙◌, subst}
 use mathlib.Core.List.{List, [], ◌∷◌}
@@ -15,8 +16,6 @@ use Rattle.format.specs.declared.Block.{Block}
 use Rattle.format.specs.declared.Column.{Column}
 use Rattle.format.specs.declared.Fields.{Fields}
 use Rattle.format.specs.declared.Head.{Head}
-use Rattle.format.specs.declared.Spelling.{Spelling}
-use Rattle.format.specs.declared.Spelling.TheVariants.{Shortest}
 use Rattle.format.specs.Outcome.{Outcome, Outcome.value, Outcome.refusal, ◌>>=◌, stored}
 use Rattle.format.specs.Stats.{read_head}
 use Rattle.format.specs.Opening.{Loaded, Table, read_blocks, open_blockwise, open_body, opened, column_in, table_in}
@@ -54,27 +53,27 @@ body-blockwise (suc (suc c)) s h room n0 n1 = refl
 
 -- ---- the table
 
-pub record Tabled (s : List ℕ) (room : ℕ) (o : Outcome Loaded) (answer : Outcome (Column × Spelling)) : Type 0 where
+pub record Tabled (s : List ℕ) (room : ℕ) (o : Outcome Loaded) (answer : Outcome (Column × Option ℕ)) : Type 0 where
   pub fillable : Fillable s (tabled answer) room
   pub same : (l : List Block) → stored (listed (blocks_from s (first_cursor s (tabled answer)))) l ≡ stored (table_for o answer) l
 
 -- no rows have no blocks
 none_fillable : (s : List ℕ) (room : ℕ) → Fillable s 0 room
 unfolding read_blocks
-none_fillable s room = record { checked = record { found = record { blocks = []; area = 0; spelling = Shortest }; is = refl }; enough = omega arith }
+none_fillable s room = record { checked = record { found = record { blocks = []; area = 0; longer = None }; is = refl }; enough = omega arith }
 
 none_same : (s : List ℕ) (l : List Block) → stored (listed (blocks_from s (first_cursor s 0))) l ≡ l
 unfolding read_blocks
 none_same s l = refl
 
-pub opened-tabled : (s : List ℕ) (room : ℕ) (answer : Outcome (Column × Spelling)) → Finds (opened s room) answer → Tabled s room (opened s room) answer
+pub opened-tabled : (s : List ℕ) (room : ℕ) (answer : Outcome (Column × Option ℕ)) → Finds (opened s room) answer → Tabled s room (opened s room) answer
 opened-tabled s room (refusal n also) finds = record { fillable = none_fillable s room; same = none_same s }
 opened-tabled s room (value a) finds = go (opened s room) refl (finds a refl)
   where
     go : (o : Outcome Loaded) → opened s room ≡ o → column_in o ≡ value a → Tabled s room o (value a)
     go (refusal n also) e is = absurd (not_value is)
     go (value o) e is = rw (← value_same is)
-        (by_opening (λ (o : Loaded). Tabled s room (value o) (value (o.column, o.spelling))) s room
+        (by_opening (λ (o : Loaded). Tabled s room (value o) (value (o.column, o.longer))) s room
         (λ (h : Head) (f : OpensBitpacked s h). record { fillable = none_fillable s room; same = none_same s })
         (λ (h : Head) (g : Fields) (f : OpensLinear s h g). record { fillable = none_fillable s room; same = none_same s })
         (λ (h : Head) (t : Table) (f : OpensBlockwise s h room t). record {
@@ -86,14 +85,14 @@ opened-tabled s room (value a) finds = go (opened s room) refl (finds a refl)
 -- ---- under a sheet
 
 -- so a column in the answer is what opening finds, and its table is opening's
-pub under_finds : (sheet : ℕ) (s : List ℕ) (room : ℕ) (answer : Outcome (Column × Spelling)) → answer ≡ column_in (opened_under sheet s room) → Finds (opened s room) answer
+pub under_finds : (sheet : ℕ) (s : List ℕ) (room : ℕ) (answer : Outcome (Column × Option ℕ)) → answer ≡ column_in (opened_under sheet s room) → Finds (opened s room) answer
 under_finds sheet s room answer is a e = go (opened_under sheet s room) refl (sym is ∙ e)
   where
     go : (o : Outcome Loaded) → opened_under sheet s room ≡ o → column_in o ≡ value a → column_in (opened s room) ≡ value a
     go (value o) found same = rw (accepted sheet s (opened s room) o found) same
     go (refusal n also) found same = absurd (not_value same)
 
-pub under_table : (sheet : ℕ) (s : List ℕ) (room : ℕ) (answer : Outcome (Column × Spelling)) → answer ≡ column_in (opened_under sheet s room)
+pub under_table : (sheet : ℕ) (s : List ℕ) (room : ℕ) (answer : Outcome (Column × Option ℕ)) → answer ≡ column_in (opened_under sheet s room)
     → table_for (opened s room) answer ≡ table_in (opened_under sheet s room)
 under_table sheet s room answer is = rw is (go (opened_under sheet s room) refl)
   where
@@ -102,8 +101,8 @@ under_table sheet s room answer is = rw is (go (opened_under sheet s room) refl)
     go (refusal n also) found = refl
 
 -- an opened column's area lies behind its code byte and ends within the bytes
-pub opened-within : (s : List ℕ) (room : ℕ) (a : Outcome (Column × Spelling)) → a ≡ column_in (opened s room) → AllWithin a s
-opened-within s room a is = subst (λ (x : Outcome (Column × Spelling)). AllWithin x s) (sym is) (go (opened s room) refl)
+pub opened-within : (s : List ℕ) (room : ℕ) (a : Outcome (Column × Option ℕ)) → a ≡ column_in (opened s room) → AllWithin a s
+opened-within s room a is = subst (λ (x : Outcome (Column × Option ℕ)). AllWithin x s) (sym is) (go (opened s room) refl)
   where
     go : (o : Outcome Loaded) → opened s room ≡ o → AllWithin (column_in o) s
     go (value o) e =

@@ -3,6 +3,7 @@
 --     pass_block                the pass at the block of a row has the table's block at hand
 --     few_blocked, passing_at   fewer than 2^32 rows have blocks; a pass over checked ones, so many on
 -- Assumes nothing.
+use Rattle.std.specs.Prelude.{None}
 use Prim.Native.Nat.{ℕ, suc, ◌+◌, ◌/◌, ◌^◌, ◌≤◌, ◌<◌, min}
 use mathlib.Core.Path.{◌≡◌, refl, sym, ap, ◌∙◌}
 use mathlib.Core.List.{List, []}
@@ -12,7 +13,6 @@ use Rattle.format.specs.declared.Codec.{Codec}
 use Rattle.format.specs.declared.Codec.TheVariants.{Bitpacked, Linear, Blockwise}
 use Rattle.format.specs.declared.Fields.{Fields}
 use Rattle.format.specs.declared.Head.{Head}
-use Rattle.format.specs.declared.Spelling.TheVariants.{Shortest}
 use Rattle.format.specs.Bodies.{block_count}
 use Rattle.format.specs.Opening.{Loaded, Table, read_blocks, opened}
 use Rattle.format.specs.Outcome.{Outcome.value}
@@ -32,7 +32,7 @@ pub record Footer (s : List ℕ) (o : Loaded) : Type 0 where
 -- without blocks, there is none at hand
 no_blocks : (s : List ℕ) → Good (blocks_from s (first_cursor s 0))
 unfolding read_blocks
-no_blocks s = record { found = record { blocks = []; area = 0; spelling = Shortest }; is = refl }
+no_blocks s = record { found = record { blocks = []; area = 0; longer = None }; is = refl }
 
 no_block : (s : List ℕ) (k i : ℕ) → k ≡ 0 → (passed s 0 k).block ≡ block_at [] i
 unfolding passed

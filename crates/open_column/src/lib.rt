@@ -6,32 +6,32 @@ pub mod opening;
 
 ghost use Rattle.open_column.specs.Calls.{PlainAs, PlainUnderAs, NarrowedAs};
 
-use format::{Column, Narrowed, Opened, Refusal, Window};
-use stats::HeadRead;
+use format::{Column, Refusal, Window};
 
 // Opens a column, for a table with room for so many blocks. All of opening's decisions fall here, on the bytes and the room
 // alone; the table itself is not needed for them.
 #[tactic(auto, using(crate::proofs::Opens::opened_none, crate::proofs::Opens::opened_unknown))]
-pub fn open_plain(bytes: &[u8], room: usize) -> Opened
+pub fn open_plain(bytes: &[u8], room: usize) -> Result<(Column, Option<usize>), Refusal>
     ensures { PlainAs bytes.now room result }
 {
     if bytes.len() == 0 {
-        return Opened::Refused(Refusal::NotAColumn);
+        return Err(Refusal::NotAColumn);
     }
     let code = bytes[0];
     if 2 < code {
-        return Opened::Refused(Refusal::NotAColumn);
+        return Err(Refusal::NotAColumn);
     }
-    let head = match stats::head_read(bytes) {
-        HeadRead::Head(h) => h,
-        HeadRead::Refused(r) => return Opened::Refused(r),
-    };
+    let head = stats::head_read(bytes)?;
     opening::load(code, bytes, head, room)
 }
 
 // Opens a column under an acceptance sheet that the caller names, for a table with room for so many blocks: sheet 1 is opening as it stands, and
 // sheet 2, once that has passed, refuses the first byte that offends it. As above, all decisions fall here.
-pub fn open_plain_under(sheet: u32, bytes: &[u8], room: usize) -> Opened
+pub fn open_plain_under(
+    sheet: u32,
+    bytes: &[u8],
+    room: usize,
+) -> Result<(Column, Option<usize>), Refusal>
     ensures { PlainUnderAs sheet bytes.now room result }
 {
     let answer = open_plain(bytes, room);
@@ -39,28 +39,19 @@ pub fn open_plain_under(sheet: u32, bytes: &[u8], room: usize) -> Opened
 }
 
 // Narrows a column's window to `count` rows from its row `first` on. A refusal returns the column as it was.
-pub fn narrow(column: Column, first: u32, count: u32) -> Narrowed
+#[tactic(auto, unfolding(format::specs::Windows::narrowed))]
+pub fn narrow(column: Column, first: u32, count: u32) -> Result<Column, (Refusal, Column)>
     ensures { NarrowedAs column first count result }
 {
     if (column.window.rows as u64) < first as u64 + count as u64 {
-        return Narrowed::Refused(Refusal::NoSuchRow, column);
+        return Err((Refusal::NoSuchRow, column));
     }
     if !read_row::reader::window_fits(column) {
-        return Narrowed::Refused(Refusal::Unfit, column);
+        return Err((Refusal::Unfit, column));
     }
     let window = Window {
         first: column.window.first + first,
         rows: count,
     };
-    let codec = column.codec;
-    Narrowed::Column(Column {
-        minimum: column.minimum,
-        gcd: column.gcd,
-        count: column.count,
-        rows: column.rows,
-        start: column.start,
-        size: column.size,
-        window,
-        codec,
-    })
+    Ok(Column { window, ..column })
 }

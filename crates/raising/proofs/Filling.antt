@@ -1,5 +1,5 @@
 -- Rows whose values were made in a list, up to the first that is refused.
---     Nearing, near-starts, near_more, near-ends, near_stops               a list that is looked through for a value beyond a span
+--     Nearing, near-ends, near_stops                                       a list that is looked through for a value beyond a span
 --     raised_all, raised_up_to                                             a list that was raised, with no height above the limit, or up to the first
 --     Scaling, scaling_starts, scaling_more, scaling_ends, scaling_stops   a list that is scaled
 --     by_line                                                              multiples that are sums of numbers and a line
@@ -34,19 +34,7 @@ pub record Nearing (low span : ℕ) (list : List ℕ) (i : ℕ) : Type 0 where
   pub sofar : (j : ℕ) → j < i → mod_sub (get_or list j 0) low ≤ span
 
 module _ (low span : ℕ) (list : List ℕ) where
-  pub near-starts : Nearing low span list 0
-  near-starts = record { sofar = λ j h. absurd (not-suc-le-zero h) }
-
   module _ {i : ℕ} (f : Nearing low span list i) where
-    pub near_more : {v : ℕ} → v ≡ mod_sub (get_or list i 0) low → v ≤ span → Nearing low span list (i + 1)
-    near_more e h = record {
-      sofar = λ (j : ℕ) (k : j < i + 1).
-          ⊎_elim
-          (λ (q : j ≡ i). rw (q, ← e) h)
-          (λ (less : j < i). f.sofar j less)
-          (eq-or-lt_of_le (omega arith));
-    }
-
     -- the rows so far have values
     nears : (read : ℕ → Outcome ℕ) (first : ℕ) → ReadBy (λ (i r v : ℕ). near low span r v) read first list → i ≤ length list → Decoding read first list i
     nears read first by inside = record {

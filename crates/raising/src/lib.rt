@@ -28,12 +28,10 @@ fn lift(values: &mut [u64], minimum: u64, limit: u64) -> bool
     ensures { Raised itself minimum values.old values.new × (result ≡ true → Within itself limit values.old) }
 {
     let mut seen: u64 = 0;
-    let mut i = 0;
-    while i < values.len() {
-        let number = values[i];
-        seen = seen | over(limit, number);
-        values[i] = word::add(minimum, number);
-        i += 1;
+    for value in values.iter_mut() {
+        let number = *value;
+        seen |= over(limit, number);
+        *value = word::add(minimum, number);
     }
     seen <= MOST
 }
@@ -64,13 +62,11 @@ fn lift_by_line(
     let base = word::sub(word::sub(intercept, 0x8000_0000), low);
     let mut product = word::add(word::mul(from, slope), 0x8000_0000_0000_0000);
     let mut seen: u64 = 0;
-    let mut i = 0;
-    while i < values.len() {
-        let height = height_at(base, product, values[i]);
-        seen = seen | over(limit, height);
-        values[i] = word::add(minimum, height);
+    for value in values.iter_mut() {
+        let height = height_at(base, product, *value);
+        seen |= over(limit, height);
+        *value = word::add(minimum, height);
         product = word::add(product, slope);
-        i += 1;
     }
     seen <= MOST
 }
@@ -79,14 +75,10 @@ fn lift_by_line(
 fn first_beyond(values: &[u64], low: u64, span: u64) -> usize
     ensures { Fills (λ (i r v : ℕ). near low span r v) values.now result values.now }
 {
-    let mut i = 0;
-    while i < values.len() {
-        if span < word::sub(values[i], low) {
-            return i;
-        }
-        i += 1;
-    }
-    i
+    values
+        .iter()
+        .position(|value| span < word::sub(*value, low))
+        .unwrap_or(values.len())
 }
 
 // Numbers to values that lie so much above the minimum, up to the first number above the limit: returns how many.
@@ -124,16 +116,14 @@ pub fn scale(values: &mut [u64], column: Column) -> usize
     let minimum = column.minimum;
     let gcd = column.gcd;
     let count = column.count;
-    let mut i = 0;
-    while i < values.len() {
-        let multiple = values[i];
+    for (i, value) in values.iter_mut().enumerate() {
+        let multiple = *value;
         if count < multiple {
             return i;
         }
-        values[i] = minimum + gcd * multiple;
-        i += 1;
+        *value = minimum + gcd * multiple;
     }
-    i
+    values.len()
 }
 
 // Internal: asks for the same. The sums of numbers and a line, the first at place `from`, as multiples.

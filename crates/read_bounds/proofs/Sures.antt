@@ -5,6 +5,8 @@
 --     multiples_stand, multiples_fit           rows that have values, as their multiples tell
 --     told-fits, looked                        a chunk whose last row has a value, and whose rows have values
 -- Assumes nothing.
+use Rattle.format.specs.declared.Refusal.{Refusal}
+use Rattle.std.specs.Prelude.{Result, Ok}
 use Prim.Native.Nat.{ℕ, zero, suc, ◌+◌, ◌-◌, ◌*◌, ◌%◌, ◌^◌, ◌≤◌, ◌<◌}
 use mathlib.Core.Path.{◌≡◌, refl, sym, ◌∙◌, subst}
 use mathlib.Core.Bool.{Bool, true, false}
@@ -30,8 +32,6 @@ use Rattle.format.proofs.Packing.{unpack_below}
 use Rattle.format.proofs.Runs.{run_long}
 use Rattle.format.proofs.Words.{add_below}
 use Rattle.linear.specs.Reader.{bounded}
-use Rattle.read_row.specs.declared.reader.Decoded.{Decoded}
-use Rattle.read_row.specs.declared.reader.Decoded.TheVariants.{Whole}
 use Rattle.read_row.specs.Chunks.{Chunk, DecodedAs, FilledAs, Fitting}
 use Rattle.read_row.proofs.Fitting.{chunk_reads}
 use Rattle.read_bounds.specs.Looks.{LookedAs, Valued, Sure, Stands, Counted, multiples_of, Near}
@@ -150,7 +150,7 @@ asked_valued r o v = rw v.is (record { number = v.number; is = refl })
 pub chunk_as : {rows first r m n : ℕ} → m ≡ n → Chunk rows first r n → Chunk rows first r m
 chunk_as e c = rw e c
 
-pub looked_as : (read : ℕ → Outcome ℕ) (r : ℕ) {m n : ℕ} {d : Decoded} {list : List ℕ} → m ≡ n → DecodedAs (read_run read r m) d list → length list ≡ m → LookedAs (read_run read r n) n d
+pub looked_as : (read : ℕ → Outcome ℕ) (r : ℕ) {m n : ℕ} {d : Result (Unit {0}) Refusal} {list : List ℕ} → m ≡ n → DecodedAs (read_run read r m) d list → length list ≡ m → LookedAs (read_run read r n) n d
 looked_as read r {list = list} e f long = record { values = list; long = long ∙ e; found = rw e at f }
 
 module _ (col : Column) (blocks : ℕ) (b : Block) (s : List ℕ) where
@@ -164,7 +164,7 @@ module _ (col : Column) (blocks : ℕ) (b : Block) (s : List ℕ) where
       by_test true false is f = absurd (not_value f)
       by_test false u is f = absurd (not_value f)
 
-  pub looked : (r n v : ℕ) → Chunk col.window.rows col.window.first r n → row_in col blocks b s (r + (n - 1)) ≡ value v → Stands col b s (column_row col r) n → LookedAs (read_run (row_in col blocks b s) r n) n Whole
+  pub looked : (r n v : ℕ) → Chunk col.window.rows col.window.first r n → row_in col blocks b s (r + (n - 1)) ≡ value v → Stands col b s (column_row col r) n → LookedAs (read_run (row_in col blocks b s) r n) n (Ok tt)
   looked r n v c last stands =
       let run = run_valued (λ (x : ℕ). asked_as x (value_at col b s (column_row col x))) r n (λ x low high. asked_valued x _ (stands.each (column_row col x) (omega arith) (omega arith))) in
       record {

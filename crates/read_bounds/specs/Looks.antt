@@ -1,6 +1,7 @@
 -- What looking at a chunk finds, without its values.
 -- Assumes nothing.
-use Rattle.std.specs.Prelude.{ℕ, ◌+◌, ◌-◌, ◌*◌, ◌^◌, ◌≤◌, ◌<◌, ◌≡◌, ◌⊎◌, List, length}
+use Rattle.format.specs.declared.Refusal.{Refusal}
+use Rattle.std.specs.Prelude.{ℕ, ◌+◌, ◌-◌, ◌*◌, ◌^◌, ◌≤◌, ◌<◌, ◌≡◌, ◌⊎◌, List, length, Result}
 use Rattle.format.specs.declared.Block.{Block}
 use Rattle.format.specs.declared.Codec.{Codec}
 use Rattle.format.specs.declared.Codec.TheVariants.{Bitpacked, Blockwise}
@@ -10,11 +11,10 @@ use Rattle.format.specs.Line.{line_at}
 use Rattle.format.specs.Outcome.{Outcome, Outcome.value}
 use Rattle.format.specs.Reading.{value_at}
 use Rattle.format.specs.Word.{mod_add, mod_sub}
-use Rattle.read_row.specs.declared.reader.Decoded.{Decoded}
 use Rattle.read_row.specs.Chunks.{DecodedAs}
 
 -- decoding would find o, in some list of n entries
-pub record LookedAs (o : Outcome (List ℕ)) (n : ℕ) (r : Decoded) : Type 0 where
+pub record LookedAs (o : Outcome (List ℕ)) (n : ℕ) (r : Result (Unit {0}) Refusal) : Type 0 where
   pub values : List ℕ
   pub long : length values ≡ n
   pub found : DecodedAs o r values

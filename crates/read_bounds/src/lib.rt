@@ -1,16 +1,14 @@
 // Looking at a chunk whose values are not asked for: where no number of a row's width can bring a value out of bounds, the bits are not read at all.
 #![tactic(auto)]
 
-ghost use Rattle.std.specs.Prelude.{◌≡◌, true, ◌+◌, ◌*◌, ◌%◌, ◌^◌, ◌≤◌, ◌<◌};
+ghost use Rattle.std.specs.Prelude.{◌≡◌, true, ◌+◌, ◌*◌, ◌%◌, ◌^◌, ◌≤◌, ◌<◌, Ok};
 ghost use Rattle.format.specs.Packing.{width};
 ghost use Rattle.format.specs.Reading.{place_of, row_in};
 ghost use Rattle.format.specs.Runs.{read_run};
-ghost use Rattle.read_row.specs.declared.reader.Decoded.TheVariants.{Whole};
 ghost use Rattle.read_row.specs.Chunks.{Chunk, Fitting};
 ghost use Rattle.read_bounds.specs.Looks.{LookedAs, Sure, Stands, Gentle, Near, Counted, multiples_of};
 
-use format::{Block, Codec, Column, ColumnRow, Line, RowRead, WindowRow};
-use read_row::reader::Decoded;
+use format::{Block, Codec, Column, ColumnRow, Line, Refusal, WindowRow};
 
 // Internal: asks for at most 56 bits. Two to the power of so many.
 fn power(bits: u64) -> u64
@@ -150,18 +148,18 @@ fn is_whole(
     size: u32,
 ) -> bool
     requires { Chunk column.window.rows column.window.first first size }
-    ensures { result ≡ true → LookedAs (read_run (row_in column blocks block bytes.now) first size) size Whole }
+    ensures { result ≡ true → LookedAs (read_run (row_in column blocks block bytes.now) first size) size (Ok tt) }
 {
     let last = WindowRow(first + (size - 1));
     match read_row::reader::row_in(column, blocks, block, bytes, last) {
-        RowRead::Value(_) => {
+        Ok(_) => {
             let at = read_row::reader::column_row(column.window.first, WindowRow(first));
             if is_sure(column, block, at.0, size) {
                 return true;
             }
             is_within(column, block, bytes, at, size as usize)
         }
-        RowRead::Refused(_) => false,
+        Err(_) => false,
     }
 }
 
@@ -173,12 +171,12 @@ pub fn look(
     bytes: &[u8],
     first: u32,
     size: usize,
-) -> Decoded
+) -> Result<(), Refusal>
     requires { Chunk column.window.rows column.window.first first size }
     ensures { LookedAs (read_run (row_in column blocks block bytes.now) first size) size result }
 {
     if is_whole(column, blocks, block, bytes, first, size as u32) {
-        return Decoded::Whole;
+        return Ok(());
     }
     let mut buffer = [0u64; 512];
     read_row::reader::decode(

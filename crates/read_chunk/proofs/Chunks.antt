@@ -5,6 +5,7 @@
 --     whole_run, refused_run                        the same by its answer
 --     front_chunk                                   a buffer's front of its size
 -- Assumes nothing.
+use Rattle.std.specs.Prelude.{Result, Ok, Err}
 use Prim.Native.Nat.{ℕ, ◌+◌, ◌-◌, ◌/◌, ◌%◌, ◌^◌, ◌<◌, ◌≤◌}
 use mathlib.Core.Path.{◌≡◌, sym, ◌∙◌}
 use mathlib.Core.List.{List}
@@ -19,8 +20,6 @@ use Rattle.format.specs.Refusals.{numbered}
 use Rattle.format.specs.Runs.{read_run}
 use Rattle.format.proofs.Runs.{run_agree}
 use Rattle.format.proofs.Lists.{front_length}
-use Rattle.read_row.specs.declared.reader.Decoded.{Decoded}
-use Rattle.read_row.specs.declared.reader.Decoded.TheVariants.{Whole, Refused as NotDecoded}
 use Rattle.read_row.specs.Chunks.{DecodedAs, Chunk, chunk_size}
 use Rattle.read_row.proofs.Moving.{any_block}
 
@@ -39,16 +38,16 @@ in_block col few t s r n {blocks} {b} number block one x low high =
     rw (number, block, same) (any_block col few x t s)
 
 -- what decoding it found, with the table
-pub decoded_at : (col : Column) → col.rows < 2 ^ 32 → (bytes : List ℕ) (at left n blocks : ℕ) (b : Block) → n ≡ chunk_size (column_row col at) left → {list : List ℕ} {d : Decoded}
+pub decoded_at : (col : Column) → col.rows < 2 ^ 32 → (bytes : List ℕ) (at left n blocks : ℕ) (b : Block) → n ≡ chunk_size (column_row col at) left → {list : List ℕ} {d : Result (Unit {0}) Refusal}
     → DecodedAs (read_run (row_in col blocks b bytes) at n) d list → (t : List Block) → blocks ≡ length t → b ≡ block_at t (column_row col at % 2 ^ 32 / 512) → DecodedAs (read_run (row_at col t bytes) at n) d list
 decoded_at col few bytes at left n blocks b size means t number block =
     record { answer = means.answer ∙ run_agree (row_in col blocks b bytes) (row_at col t bytes) at n (in_block col few t bytes at n number block (omega (arith, size))) }
 
-module _ {o : Outcome (List ℕ)} {list : List ℕ} {d : Decoded} (means : DecodedAs o d list) where
-  pub whole_run : d ≡ Whole → o ≡ value list
+module _ {o : Outcome (List ℕ)} {list : List ℕ} {d : Result (Unit {0}) Refusal} (means : DecodedAs o d list) where
+  pub whole_run : d ≡ (Ok tt) → o ≡ value list
   whole_run is = sym (rw is at means.answer)
 
-  pub refused_run : {x : Refusal} → d ≡ NotDecoded x → o ≡ numbered x
+  pub refused_run : {x : Refusal} → d ≡ Err x → o ≡ numbered x
   refused_run is = sym (rw is at means.answer)
 
 -- a buffer's front of the chunk's size is the chunk's

@@ -1,30 +1,14 @@
--- A loop that copies a list into another from an entry on.
---     CopiedTo, copy_starts, copy_more, copy_ends
+-- A part of a list that was written as a whole.
+--     part_sets        what it holds is stored there
 -- Assumes nothing.
-use Prim.Native.Nat.{ℕ, suc, ◌+◌, ◌<◌, ◌≤◌}
-use mathlib.Core.Path.{◌≡◌, refl, sym, ap, ◌∙◌}
-use mathlib.Core.List.{List}
-use native.Mathlib.Nat.{add-zero, add_assoc}
-use native.Mathlib.Numerals.{add-one}
-use lib.ListN.{length, drop, get_or, set, length-set, drop_of_length-le}
-use lib.Seq.{sets, drop-cons}
+use Prim.Native.Nat.{ℕ, ◌+◌, ◌≤◌}
+use mathlib.Core.Path.{◌≡◌, ap}
+use mathlib.Core.List.{List, ◌++◌, append_assoc}
+use lib.ListN.{length, take, drop}
+use lib.Seq.{sets, sets-eq, drop-drop}
+use borrow.Rule.Slice.PartMut.{put_mid}
 
--- the first i values are copied
-pub record CopiedTo (values before : List ℕ) (at : ℕ) (list : List ℕ) (i : ℕ) : Type 0 where
-  pub long : length list ≡ length before
-  pub rest : sets list (at + i) (drop i values) ≡ sets before at values
-
-pub copy_starts : (values before : List ℕ) (at : ℕ) → CopiedTo values before at before 0
-copy_starts values before at = record { long = refl; rest = ap (λ (k : ℕ). sets before k values) (add-zero at) }
-
-pub copy_more : {values before : List ℕ} {at : ℕ} {list : List ℕ} {i : ℕ} → CopiedTo values before at list i → i < length values → CopiedTo values before at (set list (at + i) (get_or values i 0)) (i + 1)
-copy_more {values} {before} {at} {list} {i} f h = record {
-  long = length-set list (at + i) (get_or values i 0) ∙ f.long;
-  rest =
-      ap (λ (k : ℕ). sets (set list (at + i) (get_or values i 0)) k (drop (i + 1) values)) (sym (add_assoc at i 1) ∙ add-one (at + i))
-      ∙ ap (λ (k : ℕ). sets (set list (at + i) (get_or values i 0)) (suc (at + i)) (drop k values)) (add-one i)
-      ∙ ap (sets list (at + i)) (sym (drop-cons values i 0 h)) ∙ f.rest;
-}
-
-pub copy_ends : {values before : List ℕ} {at : ℕ} {list : List ℕ} {i : ℕ} → CopiedTo values before at list i → length values ≤ i → list ≡ sets before at values
-copy_ends {values} {before} {at} {list} {i} f h = ap (sets list (at + i)) (sym (drop_of_length-le values h)) ∙ f.rest
+pub part_sets : (at n : ℕ) (list part values : List ℕ) → part ≡ values → n ≡ length values → at + length values ≤ length list → put_mid at n list part ≡ sets list at values
+part_sets at n list part values same long room =
+    rw (same, long, sets-eq values list at room, append_assoc (take at list) values (drop (at + length values) list))
+    (ap (λ (behind : List ℕ). take at list ++ (values ++ behind)) (drop-drop (length values) at list))

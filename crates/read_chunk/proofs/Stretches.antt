@@ -5,25 +5,32 @@
 --     stretch_value, -refused, -whole      what a row answers that is counted; the row behind those
 --     Storing, storing_starts, -more       the invariant of the loop that stores row by row
 --     storing_whole, -stopped              how it ends
+--     stretch_front                        stored into the front of a list that has more entries
 --     copied_whole                         a chunk that was decoded as a whole
 --     stretch_by, stretch_for              another reading that agrees; as many rows, said otherwise
 -- Assumes nothing.
+use Rattle.std.specs.Prelude.{Result, Ok, Err}
 use Prim.Native.Nat.{ℕ, zero, suc, ◌+◌, ◌-◌, ◌≤◌, ◌<◌}
 use mathlib.Core.Path.{◌≡◌, refl, sym, ap, ◌∙◌}
-use mathlib.Core.List.{List, [], ◌∷◌}
+use mathlib.Core.List.{List, [], ◌∷◌, ◌++◌}
 use native.Mathlib.Nat.{add-zero, add-suc, suc-add, not-suc-le-zero, le_of_suc-le-suc}
 use native.Mathlib.Numerals.{add-one}
 use native.Mathlib.Omega.{arith}
-use lib.ListN.{length, get_or, set, length-set}
+use lib.ListN.{length, take, drop, get_or, set, length-set}
 use lib.Seq.{sets}
+use Rattle.std.proofs.lemmas.List.{set-append_left, take-append-drop, length-take-le}
 use Rattle.format.specs.declared.Refusal.{Refusal}
 use Rattle.format.specs.Outcome.{Outcome, Outcome.value, Outcome.refusal, ◌>>=◌}
 use Rattle.format.specs.Refusals.{numbered}
 use Rattle.format.specs.Runs.{read_run}
 use Rattle.format.proofs.Outcomes.{value_same, by_step}
-use Rattle.read_chunk.specs.declared.taking.Stretch.{Stretch}
-use Rattle.read_chunk.specs.declared.taking.Stretch.TheVariants.{Whole, Stopped}
 use Rattle.read_chunk.specs.Stretch.{leading, stretch, ending, StretchAs}
+
+-- values stored in the first part of a list
+front_sets : (vs xs ys : List ℕ) (i : ℕ) → i + length vs ≤ length xs → sets (xs ++ ys) i vs ≡ sets xs i vs ++ ys
+front_sets [] xs ys i h = refl
+front_sets (v ∷ vs) xs ys i h =
+    ap (λ (l : List ℕ). sets l (suc i) vs) (set-append_left xs ys i v (omega arith)) ∙ front_sets vs (set xs i v) ys (suc i) (omega (arith, length-set xs i v))
 
 module _ (read read' : ℕ → Outcome ℕ) where
   pub stretch_agree : (r n : ℕ) → ((x : ℕ) → r ≤ x → x < r + n → read x ≡ read' x) → stretch read r n ≡ stretch read' r n
@@ -93,7 +100,6 @@ module _ (read : ℕ → Outcome ℕ) where
   -- the first i rows from r on are stored in `old`, which is `new` now; the rest decides
   pub record Storing (r n : ℕ) (old new : List ℕ) (i : ℕ) : Type 0 where
     pub few : i ≤ n
-    pub kept : length new ≡ length old
     pub count : length (stretch read r n) ≡ i + length (stretch read (r + i) (n - i))
     pub end : ending read r n ≡ ending read (r + i) (n - i)
     pub goal : sets old 0 (stretch read r n) ≡ sets new i (stretch read (r + i) (n - i))
@@ -105,7 +111,6 @@ module _ (read : ℕ → Outcome ℕ) where
       let same : stretch read r n ≡ stretch read (r + 0) (n - 0) = ap (λ (k : ℕ). stretch read k n) here ∙ ap (stretch read (r + 0)) all in
       record {
         few = omega arith;
-        kept = refl;
         count = omega (arith, ap length same);
         end = ap (λ (k : ℕ). ending read k n) here ∙ ap (ending read (r + 0)) all;
         goal = ap (sets old 0) same;
@@ -120,13 +125,12 @@ module _ (read : ℕ → Outcome ℕ) where
         ap (stretch read (r + i)) left ∙ next_values (r + i) (n - (i + 1)) v e ∙ ap (λ (k : ℕ). v ∷ stretch read k (n - (i + 1))) here in
         record {
           few = omega arith;
-          kept = length-set new i v ∙ f.kept;
           count = omega (arith, f.count, ap length after);
           end = f.end ∙ ap (ending read (r + i)) left ∙ next_ending (r + i) (n - (i + 1)) v e ∙ ap (λ (k : ℕ). ending read k (n - (i + 1))) here;
           goal = f.goal ∙ ap (sets new i) after ∙ ap (λ (k : ℕ). sets (set new i v) k (stretch read (r + (i + 1)) (n - (i + 1)))) (sym (add-one i));
         }
 
-    pub storing_whole : n ≤ i → StretchAs read r n (Whole i) old new
+    pub storing_whole : n ≤ i → StretchAs read r n (Ok i) old new
     unfolding stretch ending
     storing_whole h =
         let none : n - i ≡ 0 = omega arith in
@@ -137,7 +141,7 @@ module _ (read : ℕ → Outcome ℕ) where
           list = sym (f.goal ∙ ap (sets new i) rest);
         }
 
-    pub storing_stopped : {x : Refusal} → i < n → read (r + i) ≡ numbered x → StretchAs read r n (Stopped i x) old new
+    pub storing_stopped : {x : Refusal} → i < n → read (r + i) ≡ numbered x → StretchAs read r n (Err (i, x)) old new
     storing_stopped {x} h e =
         let left : n - i ≡ suc (n - (i + 1)) = omega arith in
         let rest : stretch read (r + i) (n - i) ≡ [] = ap (stretch read (r + i)) left ∙ no_values (r + i) (n - (i + 1)) _ _ e in
@@ -147,19 +151,32 @@ module _ (read : ℕ → Outcome ℕ) where
           list = sym (f.goal ∙ ap (sets new i) rest);
         }
 
+  -- stored into the front of a list, the rest of which stands behind it
+  pub stretch_front : (r n : ℕ) {a : Result ℕ (ℕ × Refusal)} {old new : List ℕ} → n ≤ length old → StretchAs read r n a (take n old) new → StretchAs read r n a old (new ++ drop n old)
+  stretch_front r n {a} {old} {new} room f =
+      let most = stretch_most r n in
+      record {
+        count = f.count;
+        end = f.end;
+        list =
+            ap (λ (l : List ℕ). l ++ drop n old) f.list
+            ∙ sym (front_sets (stretch read r n) (take n old) (drop n old) 0 (omega (arith, length-take-le n old room)))
+            ∙ ap (λ (l : List ℕ). sets l 0 (stretch read r n)) (take-append-drop n old);
+      }
+
   -- a chunk that was decoded as a whole, and copied
-  pub copied_whole : (r n k : ℕ) (values old new : List ℕ) → value values ≡ read_run read r n → k ≡ length values → new ≡ sets old 0 values → StretchAs read r n (Whole k) old new
+  pub copied_whole : (r n k : ℕ) (values old new : List ℕ) → value values ≡ read_run read r n → k ≡ length values → new ≡ sets old 0 values → StretchAs read r n (Ok k) old new
   copied_whole r n k values old new run long copied =
       let all = run_stretch r n values (sym run) in
       record { count = long ∙ ap length (sym all.0); end = sym all.1; list = copied ∙ ap (sets old 0) (sym all.0) }
 
 -- read by another reading that agrees
-pub stretch_by : (read read' : ℕ → Outcome ℕ) (r n : ℕ) {a : Stretch} {old new : List ℕ} → ((x : ℕ) → r ≤ x → x < r + n → read x ≡ read' x)
+pub stretch_by : (read read' : ℕ → Outcome ℕ) (r n : ℕ) {a : Result ℕ (ℕ × Refusal)} {old new : List ℕ} → ((x : ℕ) → r ≤ x → x < r + n → read x ≡ read' x)
     → StretchAs read r n a old new → StretchAs read' r n a old new
 stretch_by read read' r n {a} {old} {new} h f =
     let same = stretch_agree read read' r n h in
     record { count = f.count ∙ ap length same; end = f.end ∙ ending_agree read read' r n h; list = f.list ∙ ap (sets old 0) same }
 
 -- as many rows, said otherwise
-pub stretch_for : {read : ℕ → Outcome ℕ} {r n m : ℕ} {a : Stretch} {old new : List ℕ} → n ≡ m → StretchAs read r n a old new → StretchAs read r m a old new
+pub stretch_for : {read : ℕ → Outcome ℕ} {r n m : ℕ} {a : Result ℕ (ℕ × Refusal)} {old new : List ℕ} → n ≡ m → StretchAs read r n a old new → StretchAs read r m a old new
 stretch_for e f = rw e at f

@@ -45,9 +45,5 @@ pub fn copy(values: &[u64], out: &mut [u64], at: usize)
     requires { at + length values.now ≤ length out.old }
     ensures { out.new ≡ sets out.old at values.now }
 {
-    let mut i = 0;
-    while i < values.len() {
-        out[at + i] = values[i];
-        i += 1;
-    }
+    out[at..at + values.len()].copy_from_slice(values);
 }

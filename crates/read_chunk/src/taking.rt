@@ -1,26 +1,18 @@
 // A chunk of rows for callers that take refused rows one by one: its values up to the first that reading refuses, and that refusal.
-ghost use Rattle.std.specs.Prelude.{◌≡◌, ◌+◌, ◌-◌, ◌^◌, ◌≤◌, ◌<◌, length};
+ghost use Rattle.std.specs.Prelude.{◌≡◌, ◌+◌, ◌-◌, ◌^◌, ◌≤◌, length};
 ghost use Rattle.format.specs.Reading.{column_row, row_in};
 ghost use Rattle.read_row.specs.Chunks.{Chunk, chunk_size};
 ghost use Rattle.read_chunk.specs.Stretch.{StretchAs, counted};
 
-use format::{Block, Column, Refusal, RowRead, WindowRow};
-use read_row::reader::Decoded;
-
-// So many rows of a chunk read as values: all of its rows, or those before the one that is refused.
-#[derive(Clone, Copy)]
-pub enum Stretch {
-    Whole(usize),
-    Stopped(usize, Refusal),
-}
+use format::{Block, Column, Refusal, WindowRow};
 
 // How many values a chunk has before its end, or before its first refused row.
-pub fn values_of(stretch: Stretch) -> usize
+pub fn values_of(stretch: Result<usize, (usize, Refusal)>) -> usize
     ensures { result ≡ counted stretch }
 {
     match stretch {
-        Stretch::Whole(n) => n,
-        Stretch::Stopped(n, _) => n,
+        Ok(n) => n,
+        Err((n, _)) => n,
     }
 }
 
@@ -33,26 +25,23 @@ fn store_rows(
     first: u32,
     size: usize,
     out: &mut [u64],
-) -> Stretch
+) -> Result<usize, (usize, Refusal)>
     requires { (first + size ≤ 2 ^ 32) × (size ≤ length out.old) }
     ensures { StretchAs (row_in column blocks block bytes.now) first size result out.old out.new }
 {
-    let mut i = 0;
-    while i < size {
-        let v = match read_row::reader::row_in(
+    for (i, value) in out[..size].iter_mut().enumerate() {
+        *value = match read_row::reader::row_in(
             column,
             blocks,
             block,
             bytes,
             WindowRow(first + i as u32),
         ) {
-            RowRead::Value(v) => v,
-            RowRead::Refused(why) => return Stretch::Stopped(i, why),
+            Ok(v) => v,
+            Err(why) => return Err((i, why)),
         };
-        out[i] = v;
-        i += 1;
     }
-    Stretch::Whole(i)
+    Ok(size)
 }
 
 // Internal: asks for a chunk that a buffer has the size of, and a list with room for it. A chunk that decodes as a whole is copied; another goes row by row, up to its first refused one.
@@ -64,18 +53,18 @@ fn take_through(
     first: u32,
     values: &mut [u64],
     out: &mut [u64],
-) -> Stretch
+) -> Result<usize, (usize, Refusal)>
     requires { Chunk column.window.rows column.window.first first (length values.old) × (length values.old ≤ length out.old) }
     ensures { StretchAs (row_in column blocks block bytes.now) first (length values.old) result out.old out.new }
 {
     let size = values.len();
     let answer = read_row::reader::decode(column, blocks, block, bytes, WindowRow(first), values);
     match answer {
-        Decoded::Whole => {
+        Ok(()) => {
             crate::copy(values, out, 0);
-            Stretch::Whole(values.len())
+            Ok(values.len())
         }
-        Decoded::Refused(_) => store_rows(column, blocks, block, bytes, first, size, out),
+        Err(_) => store_rows(column, blocks, block, bytes, first, size, out),
     }
 }
 
@@ -87,11 +76,11 @@ pub fn take(
     bytes: &[u8],
     first: u32,
     out: &mut [u64; 512],
-) -> Stretch
+) -> Result<usize, (usize, Refusal)>
     ensures { StretchAs (row_in column blocks block bytes.now) first (chunk_size (column_row column first) (column.window.rows - first)) result out.old out.new }
 {
     if column.window.rows <= first {
-        return Stretch::Whole(0);
+        return Ok(0);
     }
     let mut buffer = [0u64; 512];
     let at = read_row::reader::column_row(column.window.first, WindowRow(first));

@@ -1,6 +1,7 @@
 -- How a lookup begins. Over any reading and any test.
 --     begins_lookup
 -- Assumes nothing.
+use Rattle.std.specs.Prelude.{Ok}
 use Prim.Native.Nat.{ℕ, ◌-◌, min}
 use mathlib.Core.Path.{◌≡◌, refl}
 use mathlib.Core.Bool.{Bool, true, false}
@@ -16,7 +17,6 @@ use Rattle.format.specs.Runs.{read_run}
 use Rattle.read_chunk.specs.Rows.{rows_among}
 use Rattle.read_chunk.proofs.Rows.{all_run, all_refused, rows_run}
 use Rattle.read_walk.specs.declared.Walk.{Walk}
-use Rattle.format.specs.declared.Stored.TheVariants.{Entries}
 use Rattle.read_walk.specs.Walks.{Kept.rows_of, kept, walked, Walking}
 
 module _ (read : ℕ → Outcome ℕ) (test : ℕ → Bool) where
@@ -30,13 +30,13 @@ module _ (read : ℕ → Outcome ℕ) (test : ℕ → Bool) where
       by_outcome (value vs) e = rw (all_run read first (min end rows - first) vs e, rows_run read test first (min end rows - first) vs e)
       by_outcome (refusal x y) e = rw (all_refused read first (min end rows - first) x y e)
 
-  pub begins_lookup : (window : Window) (first end last : ℕ) (list : List ℕ) (w : Walk) → last ≡ min end window.rows → w ≡ record { base = window.first; first = first; end = last; at = first; n = 0; storing = false; going = ltb first last; answer = Entries 0 }
+  pub begins_lookup : (window : Window) (first end last : ℕ) (list : List ℕ) (w : Walk) → last ≡ min end window.rows → w ≡ record { base = window.first; first = first; end = last; at = first; n = 0; storing = false; going = ltb first last; answer = Ok 0 }
       → Walking (rows_of test) read window (looked_up read window.rows test first end (length list)) list w list
   unfolding read_run rows_among
   begins_lookup window first end last list w cut is = rw (is, looked_up_lem window.rows first end (length list), ← cut) (by_rows (ltb first last) refl)
     where
       by_rows : (t : Bool) → ltb first last ≡ t
-          → Walking (rows_of test) read window (walked (rows_of test) read first last (length list)) list (record { base = window.first; first = first; end = last; at = first; n = 0; storing = false; going = t; answer = Entries 0 }) list
+          → Walking (rows_of test) read window (walked (rows_of test) read first last (length list)) list (record { base = window.first; first = first; end = last; at = first; n = 0; storing = false; going = t; answer = Ok 0 }) list
       by_rows true e = record {
         phase = record {
           going = record { on = refl; from = omega arith; to = ltb-true _ _ e; few = omega arith };

@@ -1,9 +1,12 @@
 -- What is left of a lookup under way, as far as its count tells it without reading. Over any reading and any test.
---     fill_more, fill_ends        storing rows one after the other, as if they were copied
---     trims, trims_left           while nothing is found, the rows done are left out, and a single chunk is stored at once
+--     rows_put                    rows one after the other, written into a part of a list
+--     trims                       while nothing is found, the rows done are left out, and a single chunk is stored at once
 --     told_done, told_all         a second pass that has found all, and one that finds all rows left
---     is_done, not_done           what a test of that says
+--     not_done                    what a test of that says
 -- Assumes nothing.
+use Rattle.format.specs.declared.Refusal.{Refusal}
+use Rattle.format.specs.Refusals.{answered_by}
+use Rattle.std.specs.Prelude.{Result, Ok}
 use Prim.Native.Nat.{ℕ, zero, suc, ◌+◌, ◌-◌, ◌%◌, ◌<◌, ◌≤◌}
 use mathlib.Core.Path.{◌≡◌, refl, sym, ap, ◌∙◌}
 use mathlib.Core.Bool.{Bool, true, false}
@@ -13,24 +16,23 @@ use native.Mathlib.Nat.{add-zero}
 use native.Mathlib.Numerals.{add-one}
 use native.Mathlib.Omega.{arith}
 use lib.Dec.{leb}
-use lib.ListN.{length, get_or, set, length-append}
+use lib.ListN.{length, get_or, length-append}
 use lib.Seq.{sets}
+use borrow.Rule.Slice.PartMut.{put_mid}
+use Rattle.std.proofs.lemmas.List.{ext_get_or}
 use Rattle.format.specs.declared.Window.{Window}
 use Rattle.format.specs.Outcome.{Outcome, Outcome.value, Outcome.refusal, ◌>>=◌, how_many, pick, stored}
 use Rattle.format.specs.Runs.{read_run}
 use Rattle.format.proofs.Outcomes.{value_same, by_step, by_demand}
 use Rattle.format.proofs.Runs.{run_long, run_after}
-use Rattle.format.proofs.Tests.{when, unless}
+use Rattle.format.proofs.Tests.{unless}
 use Rattle.read_chunk.specs.Rows.{rows_among}
-use Rattle.read_chunk.proofs.Copies.{CopiedTo, copy_more, copy_ends}
+use Rattle.read_chunk.proofs.Copies.{part_sets}
 use Rattle.read_chunk.proofs.Rows.{rows_few, rows_joined}
 use Rattle.read_lookup.specs.Rests.{rows_from, DoneAs}
 use Rattle.format.specs.Calls.{StoredAs}
-use Rattle.format.specs.Refusals.{stored_meaning}
 use Rattle.read_walk.specs.declared.Walk.{Walk}
-use Rattle.format.specs.declared.Stored.{Stored}
-use Rattle.format.specs.declared.Stored.TheVariants.{Entries}
-use Rattle.read_walk.specs.Walks.{Kept.rows_of, kept, InPass, Going, left}
+use Rattle.read_walk.specs.Walks.{Kept.rows_of, kept, InPass}
 use Rattle.read_walk.proofs.Walking.{nothing, more_stored}
 
 -- ---- rows one after the other
@@ -46,14 +48,12 @@ from_at r zero i h = absurd (omega arith)
 from_at r (suc n) zero h = sym (add-zero r)
 from_at r (suc n) (suc i) h = from_at (suc r) n i (omega arith) ∙ omega arith
 
-module _ (r n : ℕ) {at i : ℕ} {before list : List ℕ} (f : CopiedTo (rows_from r n) before at list i) where
-  pub fill_more : i < n → CopiedTo (rows_from r n) before at (set list (at + i) (r + i)) (i + 1)
-  fill_more h =
-      let more : CopiedTo (rows_from r n) before at (set list (at + i) (get_or (rows_from r n) i 0)) (i + 1) = copy_more f (omega (arith, from_long r n)) in
-      rw (from_at r n i h) at more
-
-  pub fill_ends : n ≤ i → list ≡ sets before at (rows_from r n)
-  fill_ends h = copy_ends f (omega (arith, from_long r n))
+-- a part of a list whose entries are those rows
+pub rows_put : (r n at k : ℕ) (list part : List ℕ) → k ≡ n → length part ≡ n → at + n ≤ length list → ((i : ℕ) → i < n → get_or part i 0 ≡ r + i) → put_mid at k list part ≡ sets list at (rows_from r n)
+rows_put r n at k list part size long room here =
+    let all : length (rows_from r n) ≡ n = from_long r n in
+    let same : part ≡ rows_from r n = ext_get_or 0 part (rows_from r n) (long ∙ sym all) (λ i h. here i (omega arith) ∙ sym (from_at r n i (omega arith))) in
+    part_sets at k list part (rows_from r n) same (size ∙ sym all) (omega arith)
 
 -- one value less than passes leaves no way for the others to make up for it
 by_test : (t : Bool) (r : ℕ) (rest : List ℕ) (n : ℕ) → length rest ≤ n → (length rest ≡ n → rest ≡ rows_from (suc r) n) → length (pick t (r ∷ rest) rest) ≡ suc n → pick t (r ∷ rest) rest ≡ r ∷ rows_from (suc r) n
@@ -126,9 +126,9 @@ module _ (test : ℕ → Bool) (read : ℕ → Outcome ℕ) {window : Window} {o
     pub is : o ≡ value (rows_among test w.first f.values ++ rows_among test w.at values)
     pub sum : total ≡ w.n + length (rows_among test w.at values)
 
-  module _ (total : ℕ) (storing : w.storing ≡ true) (many : 512 < w.end - w.first) (answer : w.answer ≡ Entries total) where
+  module _ (total : ℕ) (storing : w.storing ≡ true) (many : 512 < w.end - w.first) (answer : w.answer ≡ Ok total) where
     known : value total ≡ how_many o
-    known = ap stored_meaning (sym answer) ∙ f.sized storing many
+    known = ap answered_by (sym answer) ∙ f.sized storing many
 
     rest : Rest total
     rest =
@@ -168,19 +168,8 @@ module _ (test : ℕ → Bool) (read : ℕ → Outcome ℕ) {window : Window} {o
         let all : rows_among test w.at rest.values ≡ rows_from w.at (total - w.n) = all_pass test w.at rest.values many ∙ ap (rows_from w.at) (rest.long ∙ sym h) in
         rw all at finds
 
--- no more is left where they are left out
-pub trims_left : (w : Walk) → Going w → w.storing ≡ false → (t : Bool) → pick t (w.end - w.at) ((w.end - w.at) + (w.end - w.at)) ≤ left w
-trims_left w g e t = rw (g.on, e) (by_pass t)
-  where
-    by_pass : (t : Bool) → pick t (w.end - w.at) ((w.end - w.at) + (w.end - w.at)) ≤ (w.end - w.first) + (w.end - w.at)
-    by_pass true = omega (arith, g.from)
-    by_pass false = omega (arith, g.from)
-
 -- ---- what a test says
 
-module _ {done : Bool} {o : Outcome (List ℕ)} {answer : Stored} {before old new : List ℕ} (f : DoneAs done o answer before old new) where
-  pub is_done : done ≡ true → StoredAs o answer before new
-  is_done e = when (StoredAs o answer before new) (new ≡ old) done e f.either
-
+module _ {done : Bool} {o : Outcome (List ℕ)} {answer : Result ℕ Refusal} {before old new : List ℕ} (f : DoneAs done o answer before old new) where
   pub not_done : done ≡ false → new ≡ old
   not_done e = unless (StoredAs o answer before new) (new ≡ old) done e f.either

@@ -1,13 +1,14 @@
 -- Rows gathered in one pass, and what becomes of a lookup behind it. Over any reading and any test.
---     chunk_whole, chunk_refused, few_gathered    a chunk by itself
+--     few_gathered                                a chunk by itself
 --     front_rows, front_fits, front_few, front_below   what stands in the list
 --     in_part                                     in a part of a list
 --     none_yet, more_gathered, refused_later      chunk by chunk
 --     swept_to, swept_refused                     a sweep by its answer
---     too_many, all_fit                           storing what was gathered
---     goes_counting, is_found, is_refused         a lookup behind it
+--     too_many                                    storing what was gathered
+--     is_refused                                  a lookup behind it
 --     same_run                                    a column without blocks reads no block
 -- Assumes nothing.
+use Rattle.std.specs.Prelude.{Result, Ok, Err}
 use Prim.Native.Nat.{ℕ, ◌+◌, ◌-◌, ◌/◌, ◌<◌, ◌≤◌}
 use mathlib.Core.Path.{◌≡◌, refl, sym, ap, ◌∙◌}
 use mathlib.Core.Bool.{Bool, true, false}
@@ -16,7 +17,7 @@ use native.Mathlib.Nat.{zero-add}
 use native.Mathlib.Omega.{arith}
 use lib.ListN.{length, take, drop, length-take, length-drop, length-append}
 use lib.Seq.{sets, length-take-le, take-append-add, take-append-le}
-use borrow.Author.Tests.{le-leb, lt-leb}
+use borrow.Author.Tests.{lt-leb}
 use Rattle.format.specs.declared.Block.{Block}
 use Rattle.format.specs.declared.Codec.{Codec}
 use Rattle.format.specs.declared.Codec.TheVariants.{Bitpacked, Linear, Blockwise}
@@ -33,37 +34,13 @@ use Rattle.format.proofs.Runs.{run_agree, run_long, run_after, run_refused}
 use Rattle.read_chunk.specs.Rows.{rows_among}
 use Rattle.read_chunk.proofs.Rows.{rows_few, rows_joined}
 use Rattle.read_scan.proofs.Scans.{rows_below}
-use Rattle.read_lookup.specs.declared.sweeping.Swept.{Swept}
-use Rattle.read_lookup.specs.declared.sweeping.Swept.TheVariants.{To, Refused as Stopped}
 use Rattle.read_lookup.specs.Sweeps.{blockless, Gathered, SweptAs}
 use Rattle.format.specs.Calls.{StoredAs}
 use Rattle.read_walk.specs.declared.Walk.{Walk}
-use Rattle.format.specs.declared.Stored.{Stored}
-use Rattle.format.specs.declared.Stored.TheVariants.{Entries, Refused}
 use Rattle.read_walk.specs.Walks.{Kept.rows_of, kept, InPass}
 
 module _ (test : ℕ → Bool) (read : ℕ → Outcome ℕ) where
   -- ---- a chunk
-
-  pub chunk_whole : (at size m : ℕ) (old values new : List ℕ) → 0 < size → read_run read at size ≡ value values → m ≤ length new → take m new ≡ rows_among test at values
-      → SweptAs test read at (at + size) 0 (To (at + size) m) old new
-  chunk_whole at size m old values new some run few front =
-      let far : at + size - at ≡ size = omega arith in
-      record {
-        told = (
-          omega arith,
-          omega arith,
-          record {
-            values = values;
-            run = ap (read_run read at) far ∙ run;
-            count = sym (length-take-le m new few) ∙ ap length front;
-            front = ap (λ (k : ℕ). take k new) (zero-add m) ∙ front;
-          },
-        );
-      }
-
-  pub chunk_refused : (at size : ℕ) (x : Refusal) (old new : List ℕ) → read_run read at size ≡ numbered x → SweptAs test read at (at + size) 0 (Stopped x) old new
-  chunk_refused at size x old new run = let far : at + size - at ≡ size = omega arith in record { told = ap (read_run read at) far ∙ run }
 
   -- at most one row a value
   pub few_gathered : {first to n m : ℕ} {old new : List ℕ} → Gathered test read first to n m old new → m ≤ to - first
@@ -90,14 +67,14 @@ module _ (test : ℕ → Bool) (read : ℕ → Outcome ℕ) where
       ∙ take-append-add (take n l) (part ++ rest) m
       ∙ ap (λ (xs : List ℕ). take n l ++ xs) (take-append-le m part rest k ∙ ap (λ (j : ℕ). take j part) (sym (zero-add m)) ∙ e)
 
-  pub in_part : (at size n to : ℕ) (l part : List ℕ) (r : Swept) → to ≡ n + size → to ≤ length l → length part ≡ length (take (to - n) (drop n l))
+  pub in_part : (at size n to : ℕ) (l part : List ℕ) (r : Result (ℕ × ℕ) Refusal) → to ≡ n + size → to ≤ length l → length part ≡ length (take (to - n) (drop n l))
       → SweptAs test read at (at + length (take (to - n) (drop n l))) 0 r (take (to - n) (drop n l)) part → SweptAs test read at (at + size) n r l (take n l ++ (part ++ drop (to - n) (drop n l)))
   in_part at size n to l part r end inside long swept =
       let lent : length (take (to - n) (drop n l)) ≡ size = length-take-le (to - n) (drop n l) (omega (arith, length-drop n l)) ∙ omega arith in
       by_answer r (take (to - n) (drop n l)) (long ∙ lent) (rw lent at swept)
     where
-      by_answer : (r : Swept) (old : List ℕ) → length part ≡ size → SweptAs test read at (at + size) 0 r old part → SweptAs test read at (at + size) n r l (take n l ++ (part ++ drop (to - n) (drop n l)))
-      by_answer (To e m) old full f =
+      by_answer : (r : Result (ℕ × ℕ) Refusal) (old : List ℕ) → length part ≡ size → SweptAs test read at (at + size) 0 r old part → SweptAs test read at (at + size) n r l (take n l ++ (part ++ drop (to - n) (drop n l)))
+      by_answer (Ok (e, m)) old full f =
           let g = f.told.2 in
           record {
             told = (
@@ -111,7 +88,7 @@ module _ (test : ℕ → Bool) (read : ℕ → Outcome ℕ) where
               },
             );
           }
-      by_answer (Stopped x) old full f = record { told = f.told }
+      by_answer (Err x) old full f = record { told = f.told }
 
   -- ---- chunk by chunk
 
@@ -141,7 +118,7 @@ module _ (test : ℕ → Bool) (read : ℕ → Outcome ℕ) where
               ∙ sym rows;
         }
 
-    pub refused_later : (end size : ℕ) (x : Refusal) → at + size ≤ end → read_run read at (at + size - at) ≡ numbered x → (new : List ℕ) → SweptAs test read first end 0 (Stopped x) old new
+    pub refused_later : (end size : ℕ) (x : Refusal) → at + size ≤ end → read_run read at (at + size - at) ≡ numbered x → (new : List ℕ) → SweptAs test read first end 0 (Err x) old new
     refused_later end size x inside run new =
         let far : end - first ≡ (at - first) + ((at + size - at) + (end - (at + size))) = omega arith in
         let stops : read_run read at ((at + size - at) + (end - (at + size))) ≡ refusal (paper x).0 (paper x).1 = run_refused read at (at + size - at) (end - (at + size)) (paper x).0 (paper x).1 run in
@@ -153,21 +130,18 @@ module _ (test : ℕ → Bool) (read : ℕ → Outcome ℕ) where
 
   -- ---- by its answer
 
-  module _ {first end n : ℕ} {r : Swept} {old new : List ℕ} (f : SweptAs test read first end n r old new) where
-    pub swept_to : {at m : ℕ} → r ≡ To at m → (first < at) × (at ≤ end) × Gathered test read first at n m old new
+  module _ {first end n : ℕ} {r : Result (ℕ × ℕ) Refusal} {old new : List ℕ} (f : SweptAs test read first end n r old new) where
+    pub swept_to : {at m : ℕ} → r ≡ Ok (at, m) → (first < at) × (at ≤ end) × Gathered test read first at n m old new
     swept_to is = let g = f.told in rw is at g
 
-    pub swept_refused : {x : Refusal} → r ≡ Stopped x → read_run read first (end - first) ≡ numbered x
+    pub swept_refused : {x : Refusal} → r ≡ Err x → read_run read first (end - first) ≡ numbered x
     swept_refused is = let g = f.told in rw is at g
 
 -- ---- storing
 
 module _ (test : ℕ → Bool) (first : ℕ) (values rows before : List ℕ) (is : rows ≡ rows_among test first values) where
-  pub too_many : length before < length rows → StoredAs (kept (rows_of test) (length before) first values) (Refused (ListShort (length rows))) before before
+  pub too_many : length before < length rows → StoredAs (kept (rows_of test) (length before) first values) (Err (ListShort (length rows))) before before
   too_many h = rw (← is, lt-leb (length rows) (length before) h) (record { answer = refl; list = refl })
-
-  pub all_fit : length rows ≤ length before → StoredAs (kept (rows_of test) (length before) first values) (Entries (length rows)) before (sets before 0 rows)
-  all_fit h = rw (← is, le-leb (length rows) (length before) h) (record { answer = refl; list = refl })
 
 -- ---- a lookup behind it
 
@@ -175,29 +149,7 @@ module _ (test : ℕ → Bool) (read : ℕ → Outcome ℕ) {window : Window} {o
   untouched : list ≡ before
   untouched = f.list_is ∙ ap (λ (t : Bool). pick t (sets before 0 (rows_among test w.first f.values)) before) looks
 
-  pub goes_counting : (at n : ℕ) (values : List ℕ) → w.first < at → at < w.end → n ≤ at - w.first → read_run read w.first (at - w.first) ≡ value values → n ≡ length (rows_among test w.first values)
-      → InPass (rows_of test) read window o before (record { base = w.base; first = w.first; end = w.end; at = at; n = n; storing = false; going = true; answer = w.answer }) list
-  goes_counting at n values since inside few run count = record {
-    going = record { on = refl; from = omega arith; to = inside; few = omega arith };
-    based = f.based;
-    inside = f.inside;
-    sized = λ (s : false ≡ true) many. let z : ◌≡◌ {A = ℕ} 0 1 = cc in absurd (omega arith);
-    asked = f.asked;
-    values = values;
-    sofar = run;
-    count = count;
-    list_is = untouched;
-    clean = λ (s : false ≡ true). let z : ◌≡◌ {A = ℕ} 0 1 = cc in absurd (omega arith);
-  }
-
-  pub is_found : (at : ℕ) (values : List ℕ) (answer : Stored) (after : List ℕ) → at ≤ w.end → w.end ≤ at → read_run read w.first (at - w.first) ≡ value values
-      → StoredAs (kept (rows_of test) (length list) w.first values) answer list after → StoredAs o answer before after
-  is_found at values answer after low high run found =
-      let same : at ≡ w.end = omega arith in
-      let is : o ≡ kept (rows_of test) (length before) w.first values = f.asked ∙ ap (λ (p : Outcome (List ℕ)). p >>= kept (rows_of test) (length before) w.first) (ap (λ (k : ℕ). read_run read w.first (k - w.first)) (sym same) ∙ run) in
-      rw is (rw untouched at found)
-
-  pub is_refused : (x : Refusal) → read_run read w.first (w.end - w.first) ≡ numbered x → StoredAs o (Refused x) before list
+  pub is_refused : (x : Refusal) → read_run read w.first (w.end - w.first) ≡ numbered x → StoredAs o (Err x) before list
   is_refused x run =
       let is : o ≡ refusal (paper x).0 (paper x).1 = f.asked ∙ ap (λ (p : Outcome (List ℕ)). p >>= kept (rows_of test) (length before) w.first) run in
       rw is (record { answer = refl; list = untouched })

@@ -1,19 +1,18 @@
 // Looking rows up: a walk whose first pass counts the rows in the range, and whose second stores them, reading only where the count leaves open which they are. `sweeping` is one pass for both, where few are found.
 #![tactic(auto)]
 
-ghost use Rattle.std.specs.Prelude.{◌≡◌, Bool, true, false, List, ℕ, ◌+◌, ◌-◌, ◌%◌, ◌^◌, ◌≤◌, ◌<◌, length};
+ghost use Rattle.std.specs.Prelude.{◌≡◌, Bool, true, false, List, ℕ, ◌+◌, ◌-◌, ◌%◌, ◌^◌, ◌≤◌, ◌<◌, length, Ok};
 ghost use Rattle.std.proofs.lemmas.List.Edits.{sets};
 ghost use Rattle.format.specs.Outcome.{Outcome, pick};
 ghost use Rattle.format.specs.Lookup.{looked_up, within};
 ghost use Rattle.read_chunk.specs.Rows.{rows_among};
 ghost use Rattle.read_lookup.specs.Rests.{rows_from, DoneAs};
 ghost use Rattle.read_lookup.specs.Sweeps.{blockless};
-ghost use Rattle.format.specs.declared.Stored.TheVariants.{Entries};
 ghost use Rattle.read_walk.specs.Walks.{Kept.rows_of, next_chunk, Going, left, InPass, Walking, Keeps};
 
 pub mod sweeping;
 
-use format::{Block, Codec, Column, Stored, Window, WindowRow};
+use format::{Block, Codec, Column, Window, WindowRow};
 use read_chunk::cut;
 use read_walk::Walk;
 
@@ -52,7 +51,7 @@ pub fn begin(window: Window, first: u32, end: u32) -> Walk
         n: 0,
         storing: false,
         going: first < last,
-        answer: Stored::Entries(0),
+        answer: Ok(0),
     }
 }
 
@@ -175,10 +174,8 @@ fn put_all(found: &mut [u32], at: usize, row: u32, n: usize)
     requires { (at + n ≤ length found.old) × (row + n ≤ 2 ^ 32) }
     ensures { found.new ≡ sets found.old at (rows_from row n) }
 {
-    let mut i = 0;
-    while i < n {
-        found[at + i] = row + i as u32;
-        i += 1;
+    for (i, entry) in found[at..at + n].iter_mut().enumerate() {
+        *entry = row + i as u32;
     }
 }
 
@@ -186,7 +183,7 @@ fn put_all(found: &mut [u32], at: usize, row: u32, n: usize)
 // which are then stored.
 fn is_done(w: Walk, total: usize, found: &mut [u32]) -> bool
     requires { Going w }
-    ensures { (test : ℕ → Bool) (read : ℕ → Outcome ℕ) (window : Window) (o : Outcome (List ℕ)) (before : List ℕ) → w.storing ≡ true → 512 < w.end - w.first → w.answer ≡ Entries total → InPass (rows_of test) read window o before w found.old → DoneAs result o w.answer before found.old found.new }
+    ensures { (test : ℕ → Bool) (read : ℕ → Outcome ℕ) (window : Window) (o : Outcome (List ℕ)) (before : List ℕ) → w.storing ≡ true → 512 < w.end - w.first → w.answer ≡ Ok total → InPass (rows_of test) read window o before w found.old → DoneAs result o w.answer before found.old found.new }
 {
     if total <= w.n {
         return true;
@@ -214,8 +211,8 @@ fn is_told(w: Walk, found: &mut [u32]) -> bool
     }
     let answer = w.answer;
     match answer {
-        Stored::Entries(total) => is_done(w, total, found),
-        Stored::Refused(_) => false,
+        Ok(total) => is_done(w, total, found),
+        Err(_) => false,
     }
 }
 

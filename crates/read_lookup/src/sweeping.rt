@@ -11,16 +11,8 @@ ghost use Rattle.read_lookup.specs.Sweeps.{SweptAs, blockless};
 ghost use Rattle.format.specs.Calls.{StoredAs};
 ghost use Rattle.read_walk.specs.Walks.{Kept.rows_of, kept, Going, left, InPass, Walking};
 
-use format::{Block, Codec, Column, Refusal, Stored, Window, WindowRow};
-use read_row::reader::Decoded;
+use format::{Block, Codec, Column, Refusal, Window, WindowRow};
 use read_walk::Walk;
-
-// How a sweep ends: the rows before one are done, and so many of them found; or at a refused row.
-#[derive(Clone, Copy)]
-pub enum Swept {
-    To(u32, usize),
-    Refused(Refusal),
-}
 
 // Internal: asks for a chunk. Its rows with values of the range, in a list of its size from the front on.
 fn sweep_chunk(
@@ -32,17 +24,17 @@ fn sweep_chunk(
     high: u64,
     at: u32,
     part: &mut [u64],
-) -> Swept
+) -> Result<(u32, usize), Refusal>
     requires { Chunk column.window.rows column.window.first at (length part.old) }
     ensures { SweptAs (within low high) (row_in column blocks block bytes.now) at (at + length part.old) 0 result part.old part.new }
 {
     let size = part.len();
     match read_row::reader::decode(column, blocks, block, bytes, WindowRow(at), part) {
-        Decoded::Whole => {
+        Ok(()) => {
             let n = read_scan::gather_few(part, low, high, at);
-            Swept::To(at + size as u32, n)
+            Ok((at + size as u32, n))
         }
-        Decoded::Refused(why) => Swept::Refused(why),
+        Err(why) => Err(why),
     }
 }
 
@@ -58,7 +50,7 @@ fn sweep_there(
     size: usize,
     list: &mut [u64],
     n: usize,
-) -> Swept
+) -> Result<(u32, usize), Refusal>
     requires { Chunk column.window.rows column.window.first at size × (n + size ≤ length list.old) }
     ensures { SweptAs (within low high) (row_in column blocks block bytes.now) at (at + size) n result list.old list.new }
 {
@@ -86,27 +78,28 @@ fn sweep_rows(
     first: u32,
     end: u32,
     list: &mut [u64],
-) -> Swept
+) -> Result<(u32, usize), Refusal>
     requires { (first < end) × (end ≤ column.window.rows) × (length list.old ≡ 2048) }
     ensures { SweptAs (within low high) (row_in column blocks block bytes.now) first end 0 result list.old list.new }
 {
     let mut at = first;
     let mut n = 0;
+    // No range of rows steps by chunks: where one ends depends on where it begins.
     while at < end {
         if 1536 < n {
-            return Swept::To(at, n);
+            return Ok((at, n));
         }
         let row = read_row::reader::column_row(column.window.first, WindowRow(at));
         let size = read_chunk::chunk_size(row, end - at);
         match sweep_there(column, blocks, block, bytes, low, high, at, size, list, n) {
-            Swept::To(to, m) => {
+            Ok((to, m)) => {
                 at = to;
                 n += m;
             }
-            Swept::Refused(why) => return Swept::Refused(why),
+            Err(why) => return Err(why),
         }
     }
-    Swept::To(at, n)
+    Ok((at, n))
 }
 
 // Internal: asks for rows below 2^32. The end of a lookup that found these rows.
@@ -116,10 +109,10 @@ fn store(w: Walk, rows: &[u64], found: &mut [u32]) -> Walk
 {
     let n = rows.len();
     if found.len() < n {
-        return read_walk::over(w, Stored::Refused(Refusal::ListShort { found: n }));
+        return read_walk::over(w, Err(Refusal::ListShort { found: n }));
     }
     read_scan::copy_rows(rows, found, 0);
-    read_walk::over(w, Stored::Entries(n))
+    read_walk::over(w, Ok(n))
 }
 
 // Internal: asks for a lookup at its beginning, and rows below 2^32, no more than were read. Behind the rows before `at`, where these were found: it goes on with its first pass, or all is stored.
@@ -174,8 +167,8 @@ fn sweep_through(
     match sweep_rows(
         column, blocks, block, bytes, low, high, w.first, w.end, list,
     ) {
-        Swept::To(at, n) => settle(w, at, &list[..n], found),
-        Swept::Refused(why) => read_walk::over(w, Stored::Refused(why)),
+        Ok((at, n)) => settle(w, at, &list[..n], found),
+        Err(why) => read_walk::over(w, Err(why)),
     }
 }
 

@@ -1,22 +1,21 @@
 -- Rows are decoded in chunks, none of which crosses a multiple of 512 of the column's rows: what decoding one asks for and answers.
 -- Assumes nothing.
-use Rattle.std.specs.Prelude.{ℕ, ◌+◌, ◌-◌, ◌*◌, ◌%◌, ◌^◌, ◌≤◌, ◌<◌, min, ◌≡◌, true, ◌⊎◌, List, length}
+use Rattle.format.specs.declared.Refusal.{Refusal}
+use Rattle.std.specs.Prelude.{ℕ, ◌+◌, ◌-◌, ◌*◌, ◌%◌, ◌^◌, ◌≤◌, ◌<◌, min, ◌≡◌, true, ◌⊎◌, List, length, Result, Ok, Err}
 use Rattle.format.specs.declared.Column.{Column}
 use Rattle.format.specs.declared.Place.{Place}
 use Rattle.format.specs.Outcome.{Outcome, Outcome.value}
 use Rattle.format.specs.Packing.{legal}
 use Rattle.format.specs.Refusals.{numbered}
 use Rattle.format.specs.Runs.{filled_to}
-use Rattle.read_row.specs.declared.reader.Decoded.{Decoded}
-use Rattle.read_row.specs.declared.reader.Decoded.TheVariants.{Whole, Refused}
 
 -- what decoding a chunk found, in a list of its size
-abbrev pub chunk_meaning : Decoded → (list : List ℕ) → Outcome (List ℕ)
-chunk_meaning Whole list = value list
-chunk_meaning (Refused r) list = numbered r
+abbrev pub chunk_meaning : Result (Unit {0}) Refusal → (list : List ℕ) → Outcome (List ℕ)
+chunk_meaning (Ok tt) list = value list
+chunk_meaning (Err r) list = numbered r
 
 -- decoding a chunk found o, in a list of its size
-pub record DecodedAs (o : Outcome (List ℕ)) (r : Decoded) (list : List ℕ) : Type 0 where
+pub record DecodedAs (o : Outcome (List ℕ)) (r : Result (Unit {0}) Refusal) (list : List ℕ) : Type 0 where
   pub answer : chunk_meaning r list ≡ o
 
 -- filling a list from row r on found o, n entries on

@@ -1,12 +1,12 @@
 // Reading a row, with its block out of the table.
-ghost use Rattle.std.specs.Prelude.{◌≡◌, true, ◌||◌, ◌+◌, ◌*◌, ◌%◌, ◌^◌, ◌≤◌, ◌<◌, leb, eqb, length};
+ghost use Rattle.std.specs.Prelude.{◌≡◌, true, ◌||◌, ◌+◌, ◌*◌, ◌/◌, ◌%◌, ◌^◌, ◌≤◌, ◌<◌, leb, eqb, length};
 ghost use Rattle.format.specs.Packing.{legal};
 ghost use Rattle.format.specs.Reading.{column_row, has_block, window_fits, place_of, column_fits, row_fits, fits, value_at, asked_as, row_in};
 ghost use Rattle.format.specs.Runs.{read_run};
-ghost use Rattle.format.specs.Refusals.{row_meaning};
 ghost use Rattle.read_row.specs.Chunks.{DecodedAs, FilledAs, Chunk, Fitting};
+ghost use Rattle.format.specs.Refusals.{answered_by};
 
-use format::{Block, Codec, Column, ColumnRow, Place, Refusal, RowRead, WindowRow};
+use format::{Block, Codec, Column, ColumnRow, Place, Refusal, WindowRow};
 
 // The place of a row's number, by the codec.
 fn place_of(column: Column, block: Block, row: ColumnRow) -> Place
@@ -78,6 +78,13 @@ pub fn column_row(first: u32, row: WindowRow) -> ColumnRow
     ColumnRow((at % 0x1_0000_0000) as u32)
 }
 
+// The block that has a row of a window, as the column counts the row.
+pub fn block_of(column: Column, row: WindowRow) -> usize
+    ensures { result ≡ column_row column row.0 % 2 ^ 32 / 512 }
+{
+    blockwise_rows::reader::split(column_row(column.window.first, row)).block
+}
+
 // Whether the window lies in the column.
 pub fn window_fits(column: Column) -> bool
     ensures { result ≡ window_fits column }
@@ -127,9 +134,9 @@ fn fits(column: Column, blocks: usize, block: Block, bytes: &[u8], row: ColumnRo
 }
 
 // Internal: asks for a row at which all fits together. Its value, by the codec.
-fn value_of(column: Column, block: Block, bytes: &[u8], row: ColumnRow) -> RowRead
+fn value_of(column: Column, block: Block, bytes: &[u8], row: ColumnRow) -> Result<u64, Refusal>
     requires { Fitting column (place_of column block row.0) bytes.now }
-    ensures { row_meaning result ≡ value_at column block bytes.now row.0 }
+    ensures { answered_by result ≡ value_at column block bytes.now row.0 }
 {
     let codec = column.codec;
     match codec {
@@ -140,38 +147,42 @@ fn value_of(column: Column, block: Block, bytes: &[u8], row: ColumnRow) -> RowRe
 }
 
 // Internal: asks for a row below 2^32 at which all fits together. Its value, with no test but that of the bounds; a row out of bounds is named as it was asked for.
-pub fn row_fitting(column: Column, block: Block, bytes: &[u8], row: WindowRow) -> RowRead
+pub fn row_fitting(
+    column: Column,
+    block: Block,
+    bytes: &[u8],
+    row: WindowRow,
+) -> Result<u64, Refusal>
     requires row_bound { column_row column row.0 < 2 ^ 32 }
     requires fitting { Fitting column (place_of column block (column_row column row.0)) bytes.now }
-    ensures { row_meaning result ≡ asked_as row.0 (value_at column block bytes.now (column_row column row.0)) }
+    ensures { answered_by result ≡ asked_as row.0 (value_at column block bytes.now (column_row column row.0)) }
 {
     let at = column_row(column.window.first, row);
     match value_of(column, block, bytes, at) {
-        RowRead::Value(v) => RowRead::Value(v),
-        RowRead::Refused(_) => RowRead::Refused(Refusal::OutOfBounds { row: row.0 }),
+        Ok(v) => Ok(v),
+        Err(_) => Err(Refusal::OutOfBounds { row: row.0 }),
     }
 }
 
 // A row of the column's window, with its block out of a table of so many: whether there is such a row, whether column, table and
 // bytes fit together there, and its value.
-pub fn row_in(column: Column, blocks: usize, block: Block, bytes: &[u8], row: WindowRow) -> RowRead
-    ensures { row_meaning result ≡ row_in column blocks block bytes.now row.0 }
+pub fn row_in(
+    column: Column,
+    blocks: usize,
+    block: Block,
+    bytes: &[u8],
+    row: WindowRow,
+) -> Result<u64, Refusal>
+    ensures { answered_by result ≡ row_in column blocks block bytes.now row.0 }
 {
     if column.window.rows <= row.0 {
-        return RowRead::Refused(Refusal::NoSuchRow);
+        return Err(Refusal::NoSuchRow);
     }
     let at = column_row(column.window.first, row);
     if !fits(column, blocks, block, bytes, at) {
-        return RowRead::Refused(Refusal::Unfit);
+        return Err(Refusal::Unfit);
     }
     row_fitting(column, block, bytes, row)
-}
-
-// What decoding a chunk finds: the values of its rows, which fill the list, or its first refused row.
-#[derive(Clone, Copy)]
-pub enum Decoded {
-    Whole,
-    Refused(Refusal),
 }
 
 // Internal: asks for rows below 2^32. The rows one by one, each with all its tests: the way of a chunk that does not fit as a whole.
@@ -182,20 +193,14 @@ fn decode_rows(
     bytes: &[u8],
     first: WindowRow,
     out: &mut [u64],
-) -> Decoded
+) -> Result<(), Refusal>
     requires { first.0 + length out.old ≤ 2 ^ 32 }
     ensures { DecodedAs (read_run (row_in column blocks block bytes.now) first.0 (length out.old)) result out.new }
 {
-    let mut i = 0;
-    while i < out.len() {
-        let v = match row_in(column, blocks, block, bytes, WindowRow(first.0 + i as u32)) {
-            RowRead::Value(v) => v,
-            RowRead::Refused(why) => return Decoded::Refused(why),
-        };
-        out[i] = v;
-        i += 1;
+    for (i, value) in out.iter_mut().enumerate() {
+        *value = row_in(column, blocks, block, bytes, WindowRow(first.0 + i as u32))?;
     }
-    Decoded::Whole
+    Ok(())
 }
 
 // Internal: asks for rows of the column, in one block, that fit as a whole. Their values with no test but that of the bounds; returns how many rows stand in the list.
@@ -229,7 +234,7 @@ pub fn decode(
     bytes: &[u8],
     first: WindowRow,
     out: &mut [u64],
-) -> Decoded
+) -> Result<(), Refusal>
     requires { Chunk column.window.rows column.window.first first.0 (length out.old) }
     ensures { DecodedAs (read_run (row_in column blocks block bytes.now) first.0 (length out.old)) result out.new }
 {
@@ -243,9 +248,9 @@ pub fn decode(
     let at = column_row(column.window.first, first);
     let n = decode_fitting(column, block, bytes, at, out);
     if n < out.len() {
-        return Decoded::Refused(Refusal::OutOfBounds {
+        return Err(Refusal::OutOfBounds {
             row: first.0 + n as u32,
         });
     }
-    Decoded::Whole
+    Ok(())
 }

@@ -1,6 +1,8 @@
 -- How a run of rows begins, over any reading: it leaves the rows, has none, or is a walk.
 --     leaves, none, begins_run
 -- Assumes nothing.
+use Rattle.format.specs.declared.Refusal.{Refusal}
+use Rattle.std.specs.Prelude.{Result, Ok, Err}
 use Prim.Native.Nat.{ℕ, ◌+◌, ◌-◌, ◌%◌, ◌<◌, ◌≤◌}
 use mathlib.Core.Path.{◌≡◌, refl, sym, ◌∙◌}
 use mathlib.Core.Bool.{Bool, true, false}
@@ -16,17 +18,15 @@ use Rattle.format.specs.declared.Refusal.TheVariants.{NoSuchRow}
 use Rattle.format.specs.Outcome.{Outcome, Outcome.value, Outcome.refusal, ◌>>=◌, pick}
 use Rattle.format.specs.Runs.{read_run, decoded}
 use Rattle.format.proofs.Runs.{run_long}
-use Rattle.format.specs.declared.Stored.{Stored}
-use Rattle.format.specs.declared.Stored.TheVariants.{Entries, Refused}
 use Rattle.format.specs.Calls.{StoredAs}
 use Rattle.read_walk.specs.Walks.{Kept.all_values, kept, walked, InPass}
 
 module _ (read : ℕ → Outcome ℕ) (window : Window) (first n : ℕ) (list : List ℕ) (long : length list ≡ n) where
-  pub leaves : window.rows < first + n → StoredAs (decoded read window.rows first n) (Refused NoSuchRow) list list
+  pub leaves : window.rows < first + n → StoredAs (decoded read window.rows first n) (Err NoSuchRow) list list
   unfolding decoded
   leaves h = rw (lt-leb (first + n) window.rows h) (record { answer = refl; list = refl })
 
-  pub none : first + n ≤ window.rows → n ≡ 0 → StoredAs (decoded read window.rows first n) (Entries 0) list list
+  pub none : first + n ≤ window.rows → n ≡ 0 → StoredAs (decoded read window.rows first n) (Ok 0) list list
   unfolding decoded read_run
   none h e = rw (le-leb (first + n) window.rows h, e) (record { answer = refl; list = refl })
 
@@ -41,7 +41,7 @@ module _ (read : ℕ → Outcome ℕ) (window : Window) (first n : ℕ) (list : 
       by_outcome (value vs) e = let fits : length vs ≤ length list = omega (arith, run_long read first n vs e, long) in rw (le-leb (length vs) (length list) fits)
       by_outcome (refusal x y) e = refl
 
-  pub begins_run : first + n ≤ window.rows → 0 < n → (t : Bool) → t ≡ leb (first + n - first) (512 - (window.first + first) % 512) → (a : Stored)
+  pub begins_run : first + n ≤ window.rows → 0 < n → (t : Bool) → t ≡ leb (first + n - first) (512 - (window.first + first) % 512) → (a : Result ℕ Refusal)
       → InPass all_values read window (decoded read window.rows first n) list (record { base = window.first; first = first; end = first + n; at = first; n = 0; storing = t; going = true; answer = a }) list
   unfolding read_run
   begins_run h some t e a =

@@ -3,6 +3,8 @@
 --     looks            a pass that looks stores no chunk
 --     straight         no row is refused there, so that the list is what storing leaves
 -- Assumes nothing.
+use Rattle.format.specs.declared.Refusal.{Refusal}
+use Rattle.std.specs.Prelude.{Result, Ok, Err}
 use Prim.Native.Nat.{ℕ, ◌+◌, ◌-◌, ◌≤◌, ◌<◌}
 use mathlib.Core.Path.{◌≡◌, refl, sym, ap, ◌∙◌}
 use mathlib.Core.Bool.{true, false}
@@ -15,8 +17,6 @@ use Rattle.format.specs.declared.Window.{Window}
 use Rattle.format.specs.Outcome.{Outcome, pick, how_many}
 use Rattle.format.specs.Runs.{read_run}
 use Rattle.format.proofs.Outcomes.{not_value}
-use Rattle.read_row.specs.declared.reader.Decoded.{Decoded}
-use Rattle.read_row.specs.declared.reader.Decoded.TheVariants.{Whole, Refused as NotDecoded}
 use Rattle.read_row.specs.Chunks.{DecodedAs}
 use Rattle.read_run.specs.Places.{PlacedAs}
 use Rattle.read_walk.specs.declared.Walk.{Walk}
@@ -33,7 +33,7 @@ there l part from to size end inside long =
     ∙ ap (λ (m : List ℕ). take from l ++ (part ++ m)) (ap (λ (k : ℕ). drop k l) (sym behind) ∙ sym (drop-drop (to - from) from l)))
 
 -- a chunk was decoded in such a part
-pub placed : (read : ℕ → Outcome ℕ) (first from size to : ℕ) (l part : List ℕ) (d : Decoded) → to ≡ from + size → to ≤ length l → length part ≡ length (take (to - from) (drop from l))
+pub placed : (read : ℕ → Outcome ℕ) (first from size to : ℕ) (l part : List ℕ) (d : Result (Unit {0}) Refusal) → to ≡ from + size → to ≤ length l → length part ≡ length (take (to - from) (drop from l))
     → DecodedAs (read_run read first (length (take (to - from) (drop from l)))) d part → PlacedAs (read_run read first size) d size from l (take from l ++ (part ++ drop (to - from) (drop from l)))
 placed read first from size to l part d end inside kept found =
     let lent : length (take (to - from) (drop from l)) ≡ size = length-take-le (to - from) (drop from l) (omega (arith, length-drop from l)) ∙ omega arith in
@@ -44,9 +44,9 @@ placed read first from size to l part d end inside kept found =
       list = there l part from to size end inside (kept ∙ lent);
     }
 
-pub looks : (w : Walk) (d : Decoded) → w.storing ≡ false → stores w d ≡ false
-looks w Whole e = e
-looks w (NotDecoded x) e = refl
+pub looks : (w : Walk) (d : Result (Unit {0}) Refusal) → w.storing ≡ false → stores w d ≡ false
+looks w (Ok tt) e = e
+looks w (Err x) e = refl
 
 module _ {read : ℕ → Outcome ℕ} {window : Window} {o : Outcome (List ℕ)} {before list : List ℕ} {w : Walk} (f : InPass all_values read window o before w list) (size : ℕ) (chunk : size ≡ next_chunk w) (on : w.storing ≡ true) (several : size < w.end - w.first) where
   -- a second pass refuses no row
@@ -57,8 +57,8 @@ module _ {read : ℕ → Outcome ℕ} {window : Window} {o : Outcome (List ℕ)}
       (λ (good : Unrefused o). good)
       (f.clean on)
 
-  pub straight : (r : Walk) (d : Decoded) (values : List ℕ) {after : List ℕ} → DecodedAs (read_run read w.at size) d values → after ≡ sets list w.n values
+  pub straight : (r : Walk) (d : Result (Unit {0}) Refusal) (values : List ℕ) {after : List ℕ} → DecodedAs (read_run read w.at size) d values → after ≡ sets list w.n values
       → Walking all_values read window o before r (pick (stores w d) (sets list w.n values) list) → Walking all_values read window o before r after
-  straight r Whole values found is walk = rw (is, ← ap (λ b. pick b (sets list w.n values) list) on) walk
-  straight r (NotDecoded x) values found is walk =
+  straight r (Ok tt) values found is walk = rw (is, ← ap (λ b. pick b (sets list w.n values) list) on) walk
+  straight r (Err x) values found is walk =
       absurd (not_value ((refuses all_values read f size chunk x (sym found.answer)).answer ∙ ap how_many unrefused.is))

@@ -10,12 +10,11 @@ ghost use Rattle.read_row.specs.Chunks.{Chunk};
 ghost use Rattle.read_run.specs.Places.{PlacedAs};
 ghost use Rattle.read_walk.specs.Walks.{Kept.all_values, next_chunk, Going, left, Walking, Keeps};
 
-use format::{Block, Column, Refusal, Stored, Window, WindowRow};
-use read_row::reader::Decoded;
+use format::{Block, Column, Refusal, Window, WindowRow};
 use read_walk::Walk;
 
 // A run that is over before it begins.
-fn settled(first: u32, answer: Stored) -> Walk
+fn settled(first: u32, answer: Result<usize, Refusal>) -> Walk
     ensures { (result.going ≡ false) × (result.answer ≡ answer) }
 {
     Walk {
@@ -35,13 +34,13 @@ pub fn begin(window: Window, first: u32, n: usize) -> Walk
     ensures { (read : ℕ → Outcome ℕ) (list : List ℕ) → length list ≡ n → Walking all_values read window (decoded read window.rows first n) list result list }
 {
     if window.rows < first {
-        return settled(first, Stored::Refused(Refusal::NoSuchRow));
+        return settled(first, Err(Refusal::NoSuchRow));
     }
     if ((window.rows - first) as usize) < n {
-        return settled(first, Stored::Refused(Refusal::NoSuchRow));
+        return settled(first, Err(Refusal::NoSuchRow));
     }
     if n == 0 {
-        return settled(first, Stored::Entries(0));
+        return settled(first, Ok(0));
     }
     let end = first + n as u32;
     let at = read_row::reader::column_row(window.first, WindowRow(first));
@@ -53,7 +52,7 @@ pub fn begin(window: Window, first: u32, n: usize) -> Walk
         n: 0,
         storing: end - first <= 512 - at.0 % 512,
         going: true,
-        answer: Stored::Entries(n),
+        answer: Ok(n),
     }
 }
 
@@ -100,7 +99,7 @@ fn decode_there(
     out: &mut [u64],
     from: usize,
     size: usize,
-) -> Decoded
+) -> Result<(), Refusal>
     requires { Chunk column.window.rows column.window.first first size × (from + size ≤ length out.old) }
     ensures { PlacedAs (read_run (row_in column blocks block bytes.now) first size) result size from out.old out.new }
 {

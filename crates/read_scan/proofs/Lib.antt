@@ -2,3 +2,4 @@
 
 pub mod Ranges
 pub mod Scans
+pub mod Copies

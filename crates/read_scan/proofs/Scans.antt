@@ -1,17 +1,17 @@
 -- Loops over a plain list of values, the first being row r: the rows that pass a test. Over any test.
---     Tallying, tally_starts, tally_more, tally_ends          counting them
---     Sparing, spare_starts, spare_more, spare_ends           counting the others
---     Baring, bare_starts, bare_more, bare_ends               none of some values passes
+--     Tallying, tally_more, tally_ends                         counting them
+--     Sparing, spare_more, spare_ends                          counting the others
+--     Baring, bare_more, bare_ends                             none of some values passes
 --     gather_starts, gather_more, gather_over, gather_ends     gathering them over the values
---     GatheredTo, part_starts, part_more, part_ends                   a part of that
---     rows_below                                              they are no rows behind the last value's
+--     GatheredTo, part_more, part_ends                         a part of that
+--     rows_below                                               they are no rows behind the last value's
 -- Assumes nothing.
 use Prim.Native.Nat.{ℕ, zero, suc, ◌+◌, ◌-◌, ◌/◌, ◌^◌, ◌<◌, ◌≤◌}
 use mathlib.Core.Path.{◌≡◌, refl, sym, ap, ◌∙◌}
 use mathlib.Core.Bool.{Bool, true, false}
 use mathlib.Core.Logic.{⊎_elim}
 use mathlib.Core.List.{List, [], ◌∷◌, ◌++◌, append_assoc, append-nil}
-use native.Mathlib.Nat.{add-zero, zero-add, add_assoc, le_refl}
+use native.Mathlib.Nat.{add-zero, add_assoc, le_refl}
 use native.Mathlib.Numerals.{add-one}
 use native.Mathlib.Omega.{arith}
 use lib.Bits.{bit_and, and_le_l, and_le_r}
@@ -34,9 +34,6 @@ module _ (test : ℕ → Bool) where
   pub record Tallying (values : List ℕ) (n i : ℕ) : Type 0 where
     pub small : n ≤ i
     pub rest : (r : ℕ) → n + length (rows_among test (r + i) (drop i values)) ≡ length (rows_among test r values)
-
-  pub tally_starts : (values : List ℕ) → Tallying values 0 0
-  tally_starts values = record { small = omega arith; rest = λ (r : ℕ). zero-add _ ∙ ap (λ (k : ℕ). length (rows_among test k values)) (add-zero r) }
 
   tally_by : (t : Bool) (n x : ℕ) (l : List ℕ) → pick t (n + 1) n + length l ≡ n + length (pick t (x ∷ l) l)
   tally_by true n x l = omega arith
@@ -67,9 +64,6 @@ module _ (test : ℕ → Bool) where
     pub most : i ≤ length values
     pub tally : Tallying values kept i
 
-  pub spare_starts : (values : List ℕ) → Sparing values 0 0
-  spare_starts values = record { kept = 0; sum = refl; most = omega arith; tally = tally_starts values }
-
   spare_by : (t : Bool) (n kept i : ℕ) → n + kept ≡ i → pick t n (n + 1) + pick t (kept + 1) kept ≡ i + 1
   spare_by true n kept i h = omega arith
   spare_by false n kept i h = omega arith
@@ -91,9 +85,6 @@ module _ (test : ℕ → Bool) where
   pub record Baring (values : List ℕ) (from seen i : ℕ) : Type 0 where
     pub since : from ≤ i
     pub bare : 2 ^ 63 ≤ seen → Bare test from i values
-
-  pub bare_starts : (values : List ℕ) (from seen : ℕ) → Baring values from seen from
-  bare_starts values from seen = record { since = le_refl from; bare = λ set j low high. absurd (omega arith) }
 
   pub bare_more : {values : List ℕ} {from seen i : ℕ} (x : ℕ) → Baring values from seen i → x / 2 ^ 63 ≡ pick (test (get_or values i 0)) 0 1 → Baring values from (bit_and seen x) (i + 1)
   bare_more {values} {from} {seen} {i} x f e = record {
@@ -167,17 +158,12 @@ module _ (test : ℕ → Bool) where
   -- a part of it, by a loop over the values
   pub record GatheredTo (row n from : ℕ) (old new : List ℕ) (m i : ℕ) : Type 0 where
     pub small : m ≤ i
-    pub long : length new ≡ length old
     pub so_far : Gathers test row n from m i old new
-
-  pub part_starts : (row n from : ℕ) (old : List ℕ) → n ≤ from → GatheredTo row n from old old n from
-  part_starts row n from old h = record { small = h; long = refl; so_far = λ values f. f }
 
   pub part_more : {row n from : ℕ} {old new : List ℕ} {m i k : ℕ} → GatheredTo row n from old new m i → i < length new → k ≡ pick (test (get_or new i 0)) (m + 1) m
       → GatheredTo row n from old (set new m (row + i)) k (i + 1)
   part_more {row} {n} {from} {old} {new} {m} {i} {k} f h e = record {
     small = rw e (tally_small (test (get_or new i 0)) m i f.small);
-    long = length-set new m (row + i) ∙ f.long;
     so_far = λ values g. gather_more (f.so_far values g) h e;
   }
 

@@ -31,10 +31,8 @@ fn count_any(values: &[u64], low: u64, high: u64) -> usize
     ensures upper_bound { result ≤ length values.now }
 {
     let mut n = 0;
-    let mut i = 0;
-    while i < values.len() {
-        n = tallied(n, low, high, values[i]);
-        i += 1;
+    for value in values {
+        n = tallied(n, low, high, *value);
     }
     n
 }
@@ -63,10 +61,8 @@ fn count_outside(values: &[u64], low: u64, span: u64) -> usize
     ensures { OutsideOf low (low + span) result values.now }
 {
     let mut n = 0;
-    let mut i = 0;
-    while i < values.len() {
-        n = passed_over(n, low, span, values[i]);
-        i += 1;
+    for value in values {
+        n = passed_over(n, low, span, *value);
     }
     n
 }
@@ -101,12 +97,11 @@ fn gather_part(
     ensures { Gathers (within low high) row n from result to values.old values.new }
 {
     let mut m = n;
-    let mut i = from;
-    while i < to {
+    // By index: the entry that is written stands before the value that is read, or is the same.
+    for i in from..to {
         let value = values[i];
         values[m] = (row + i as u32) as u64;
         m = tallied(m, low, high, value);
-        i += 1;
     }
     m
 }
@@ -125,12 +120,9 @@ fn is_bare(values: &[u64], from: usize, low: u64, span: u64) -> bool
     requires { (span < 2 ^ 63) × (low + span < 2 ^ 64) × (from + 16 ≤ length values.now) }
     ensures { result ≡ true → Bare (within low (low + span)) from (from + 16) values.now }
 {
-    let to = from + 16;
-    let mut seen: u64 = 0xffff_ffff_ffff_ffff;
-    let mut i = from;
-    while i < to {
-        seen = seen & beyond(low, span, values[i]);
-        i += 1;
+    let mut seen = u64::MAX;
+    for value in &values[from..from + 16] {
+        seen &= beyond(low, span, *value);
     }
     0x8000_0000_0000_0000 <= seen
 }
@@ -152,13 +144,12 @@ fn gather_groups(values: &mut [u64], low: u64, span: u64, row: u32) -> usize
     ensures { (result ≤ length values.old) × (take result values.new ≡ rows_among (within low (low + span)) row values.old) }
 {
     let all = values.len();
+    let groups = all / 16;
     let mut n = 0;
-    let mut i = 0;
-    while 16 <= all - i {
-        n = gather_group(values, low, span, row, i, n);
-        i += 16;
+    for group in 0..groups {
+        n = gather_group(values, low, span, row, 16 * group, n);
     }
-    gather_part(values, low, low + span, row, i, all, n)
+    gather_part(values, low, low + span, row, 16 * groups, all, n)
 }
 
 // Internal: asks for rows below 2^32. As `gather_rows`, and faster where few rows are found.
@@ -181,9 +172,8 @@ pub fn copy_rows(rows: &[u64], found: &mut [u32], at: usize)
     requires { (at + length rows.now ≤ length found.old) × AllBelow (2 ^ 32) rows.now }
     ensures { found.new ≡ sets found.old at rows.now }
 {
-    let mut i = 0;
-    while i < rows.len() {
-        found[at + i] = rows[i] as u32;
-        i += 1;
+    // By index: of entries written through a `zip` over `iter_mut` a proof knows nothing.
+    for (i, row) in rows.iter().enumerate() {
+        found[at + i] = *row as u32;
     }
 }

@@ -9,6 +9,7 @@
 --     passing_long, passing_run                              a lent list is as long as it was, and a run's as its rows
 --     nothing, more_stored                                   a list of no entries, and what was stored with more behind it
 -- Assumes nothing.
+use Rattle.std.specs.Prelude.{Result, Ok, Err}
 use Prim.Native.Nat.{ℕ, suc, ◌+◌, ◌-◌, ◌/◌, ◌%◌, ◌^◌, ◌<◌, ◌≤◌}
 use mathlib.Core.Path.{◌≡◌, refl, sym, ap, ◌∙◌, subst}
 use mathlib.Core.Bool.{Bool, true, false}
@@ -26,18 +27,14 @@ use Rattle.format.specs.declared.Window.{Window}
 use Rattle.format.specs.declared.Refusal.TheVariants.{ListShort}
 use Rattle.format.specs.Outcome.{Outcome, Outcome.value, Outcome.refusal, ◌>>=◌, ◌>>◌, demand, pick, how_many}
 use Rattle.format.specs.Reading.{block_at}
-use Rattle.format.specs.Refusals.{numbered, paper, stored_meaning}
+use Rattle.format.specs.Refusals.{numbered, paper, answered_by}
 use Rattle.format.specs.Runs.{read_run}
 use Rattle.format.proofs.Outcomes.{not_value, value_same, by_step, by_demand}
 use Rattle.format.proofs.Runs.{run_long, run_after, run_refused}
 use Rattle.format.proofs.Tests.{when, unless, as_unless}
-use Rattle.read_row.specs.declared.reader.Decoded.{Decoded}
-use Rattle.read_row.specs.declared.reader.Decoded.TheVariants.{Whole, Refused as NotDecoded}
 use Rattle.read_row.specs.Chunks.{chunk_size}
 use Rattle.format.specs.Calls.{StoredAs}
 use Rattle.read_walk.specs.declared.Walk.{Walk}
-use Rattle.format.specs.declared.Stored.{Stored}
-use Rattle.format.specs.declared.Stored.TheVariants.{Entries, Refused}
 use Rattle.read_walk.specs.Walks.{Kept, Kept.all_values, Kept.rows_of, entries, kept, next_chunk, Going, left, stores, Sized, Single, Unrefused, InPass, Walking}
 use Rattle.read_chunk.proofs.Chunks.{chunk_to}
 use Rattle.read_chunk.proofs.Rows.{rows_few, rows_joined}
@@ -94,9 +91,9 @@ module _ (w : Walk) (g : Going w) where
 
 module _ {k : Kept} {read : ℕ → Outcome ℕ} {window : Window} {o : Outcome (List ℕ)} {before list : List ℕ} {w : Walk} where
   -- a walk that is over has its answer
-  pub ended : {a : Stored} → w.going ≡ false → w.answer ≡ a → StoredAs o a before list → Walking k read window o before w list
+  pub ended : {a : Result ℕ Refusal} → w.going ≡ false → w.answer ≡ a → StoredAs o a before list → Walking k read window o before w list
   ended {a} e g f =
-      record { phase = as_unless (InPass k read window o before w list) (StoredAs o w.answer before list) w.going e (subst (λ (x : Stored). StoredAs o x before list) (sym g) f) }
+      record { phase = as_unless (InPass k read window o before w list) (StoredAs o w.answer before list) w.going e (subst (λ (x : Result ℕ Refusal). StoredAs o x before list) (sym g) f) }
 
   module _ (f : Walking k read window o before w list) where
     pub is_over : w.going ≡ false → StoredAs o w.answer before list
@@ -111,9 +108,9 @@ pub left_as : {k : Kept} {read : ℕ → Outcome ℕ} {window : Window} {o : Out
 left_as xs ys e told f = rw (e, told) f
 
 -- a chunk that is stored has its values
-pub stores-whole : (w : Walk) (d : Decoded) → stores w d ≡ true → (d ≡ Whole) × (w.storing ≡ true)
-stores-whole w Whole e = (refl, e)
-stores-whole w (NotDecoded x) e = let z : ◌≡◌ {A = ℕ} 0 1 = cc in absurd (omega arith)
+pub stores-whole : (w : Walk) (d : Result (Unit {0}) Refusal) → stores w d ≡ true → (d ≡ (Ok tt)) × (w.storing ≡ true)
+stores-whole w (Ok tt) e = (refl, e)
+stores-whole w (Err x) e = let z : ◌≡◌ {A = ℕ} 0 1 = cc in absurd (omega arith)
 
 picked_long : (t : Bool) (before xs : List ℕ) → length (pick t (sets before 0 xs) before) ≡ length before
 picked_long true before xs = length-sets before 0 xs
@@ -145,7 +142,7 @@ held true number also xs found e = refl
 held false number also xs found e = absurd (not_value e)
 
 -- a second pass has its answer, be it counted or not asked for
-counted : (k : Kept) (rows room : ℕ) (t : Bool) (a b : Stored) (o : Outcome (List ℕ)) → Sized k rows room t a o → stored_meaning b ≡ how_many o → Sized k rows room true b o
+counted : (k : Kept) (rows room : ℕ) (t : Bool) (a b : Result ℕ Refusal) (o : Outcome (List ℕ)) → Sized k rows room t a o → answered_by b ≡ how_many o → Sized k rows room true b o
 counted all_values rows room t a b o f e = f
 counted (rows_of test) rows room t a b o f e = λ s many. e
 
@@ -227,7 +224,7 @@ module _ (k : Kept) (read : ℕ → Outcome ℕ) {window : Window} {o : Outcome 
           found ∙ rw (le-leb (length (entries k w.first (f.values ++ vs))) (length before) fits)
 
       -- a pass that stores has room
-      pub all_stored : w.storing ≡ true → StoredAs o (Entries (w.n + n)) before (pick w.storing (sets list w.n (entries k w.at vs)) list)
+      pub all_stored : w.storing ≡ true → StoredAs o (Ok (w.n + n)) before (pick w.storing (sets list w.n (entries k w.at vs)) list)
       all_stored e =
           let is : o ≡ value (entries k w.first (f.values ++ vs)) =
           ⊎_elim
@@ -245,19 +242,19 @@ module _ (k : Kept) (read : ℕ → Outcome ℕ) {window : Window} {o : Outcome 
         untouched : pick w.storing (sets list w.n (entries k w.at vs)) list ≡ before
         untouched = stored_so_far ∙ rw e refl
 
-        pub too_short : length before < w.n + n → StoredAs o (Refused (ListShort (w.n + n))) before (pick w.storing (sets list w.n (entries k w.at vs)) list)
+        pub too_short : length before < w.n + n → StoredAs o (Err (ListShort (w.n + n))) before (pick w.storing (sets list w.n (entries k w.at vs)) list)
         too_short h =
             let over : length before < length (entries k w.first (f.values ++ vs)) = omega (arith, all_count) in
             let is : o ≡ refusal 15 ((w.n + n) ∷ []) = found ∙ rw (lt-leb (length (entries k w.first (f.values ++ vs))) (length before) over, ← all_count) in
             record { answer = rw is refl; list = untouched ∙ rw is refl }
 
-        pub none_found : w.n + n ≡ 0 → StoredAs o (Entries 0) before (pick w.storing (sets list w.n (entries k w.at vs)) list)
+        pub none_found : w.n + n ≡ 0 → StoredAs o (Ok 0) before (pick w.storing (sets list w.n (entries k w.at vs)) list)
         none_found h =
             let is : o ≡ value [] = all_kept (omega arith) ∙ ap value (nothing _ (sym all_count ∙ h)) in
             record { answer = rw is refl; list = untouched ∙ rw is refl }
 
         pub turns_over : w.n + n ≤ length before
-            → InPass k read window o before (record { base = w.base; first = w.first; end = w.end; at = w.first; n = 0; storing = true; going = true; answer = Entries (w.n + n) }) (pick w.storing (sets list w.n (entries k w.at vs)) list)
+            → InPass k read window o before (record { base = w.base; first = w.first; end = w.end; at = w.first; n = 0; storing = true; going = true; answer = Ok (w.n + n) }) (pick w.storing (sets list w.n (entries k w.at vs)) list)
         unfolding read_run
         turns_over h =
             let is : o ≡ value (entries k w.first (f.values ++ vs)) = all_kept h in
@@ -267,7 +264,7 @@ module _ (k : Kept) (read : ℕ → Outcome ℕ) {window : Window} {o : Outcome 
               going = record { on = refl; from = omega arith; to = omega (arith, f.going.from, f.going.to); few = omega arith };
               based = f.based;
               inside = f.inside;
-              sized = counted k (w.end - w.first) (length before) w.storing w.answer (Entries (w.n + n)) o f.sized (ap value all_count ∙ rw is refl);
+              sized = counted k (w.end - w.first) (length before) w.storing w.answer (Ok (w.n + n)) o f.sized (ap value all_count ∙ rw is refl);
               asked = f.asked;
               values = [];
               sofar = rw none_done;
@@ -278,7 +275,7 @@ module _ (k : Kept) (read : ℕ → Outcome ℕ) {window : Window} {o : Outcome 
 
   -- ---- at a refused row
 
-  pub refuses : (x : Refusal) → read_run read w.at size ≡ numbered x → StoredAs o (Refused x) before list
+  pub refuses : (x : Refusal) → read_run read w.at size ≡ numbered x → StoredAs o (Err x) before list
   refuses x run =
       let far : w.end - w.first ≡ (w.at - w.first) + (size + (w.end - (w.at + size))) = omega (arith, f.going.from, chunk_to (w.base + w.at) w.at w.end size f.going.to chunk) in
       let stops : read_run read w.at (size + (w.end - (w.at + size))) ≡ refusal (paper x).0 (paper x).1 = run_refused read w.at size (w.end - (w.at + size)) (paper x).0 (paper x).1 run in

@@ -1,6 +1,8 @@
 -- A walk over the rows of a lookup or a run in a window, chunk by chunk: what it is to store, what its passes have done so far, and what is left. Over any reading.
 -- Assumes nothing.
-use Rattle.std.specs.Prelude.{ℕ, ◌+◌, ◌-◌, ◌/◌, ◌%◌, ◌^◌, ◌≤◌, ◌<◌, ◌≡◌, Bool, true, false, ◌⊎◌, List, [], ◌∷◌, leb, length}
+use Rattle.format.specs.declared.Refusal.{Refusal}
+use Rattle.format.specs.Refusals.{answered_by}
+use Rattle.std.specs.Prelude.{ℕ, ◌+◌, ◌-◌, ◌/◌, ◌%◌, ◌^◌, ◌≤◌, ◌<◌, ◌≡◌, Bool, true, false, ◌⊎◌, List, [], ◌∷◌, leb, length, Result, Ok, Err}
 use Rattle.std.proofs.lemmas.List.Edits.{sets}
 use Rattle.format.specs.declared.Block.{Block}
 use Rattle.format.specs.declared.Column.{Column}
@@ -8,13 +10,9 @@ use Rattle.format.specs.declared.Window.{Window}
 use Rattle.format.specs.Outcome.{Outcome, Outcome.value, ◌>>=◌, ◌>>◌, demand, pick, how_many}
 use Rattle.format.specs.Calls.{StoredAs}
 use Rattle.format.specs.Reading.{block_at, row_at}
-use Rattle.format.specs.Refusals.{stored_meaning}
 use Rattle.format.specs.Runs.{read_run}
 use Rattle.read_walk.specs.declared.Walk.{Walk}
-use Rattle.format.specs.declared.Stored.{Stored}
 use Rattle.read_chunk.specs.Rows.{rows_among}
-use Rattle.read_row.specs.declared.reader.Decoded.{Decoded}
-use Rattle.read_row.specs.declared.reader.Decoded.TheVariants.{Whole, Refused as NotDecoded}
 use Rattle.read_row.specs.Chunks.{chunk_size}
 
 -- ---- what is stored
@@ -57,14 +55,14 @@ abbrev pub left : Walk → ℕ
 left w = pick w.going (pick w.storing (w.end - w.at) ((w.end - w.first) + (w.end - w.at))) 0
 
 -- whether a chunk is stored: the pass stores, and the chunk has its values
-abbrev pub stores : Walk → Decoded → Bool
-stores w Whole = w.storing
-stores w (NotDecoded x) = false
+abbrev pub stores : Walk → Result (Unit {0}) Refusal → Bool
+stores w (Ok tt) = w.storing
+stores w (Err x) = false
 
 -- the sizes that are known: the list of a run is as long as its rows, and a lookup over more than 512 rows that stores has its answer, since it has counted
-abbrev pub Sized : Kept → (rows room : ℕ) (storing : Bool) (answer : Stored) (o : Outcome (List ℕ)) → Type 0
+abbrev pub Sized : Kept → (rows room : ℕ) (storing : Bool) (answer : Result ℕ Refusal) (o : Outcome (List ℕ)) → Type 0
 Sized all_values rows room storing answer o = room ≡ rows
-Sized (rows_of test) rows room storing answer o = storing ≡ true → 512 < rows → stored_meaning answer ≡ how_many o
+Sized (rows_of test) rows room storing answer o = storing ≡ true → 512 < rows → answered_by answer ≡ how_many o
 
 -- it lies in one chunk, at its beginning, and a list of such a length has room for an entry a row
 pub record Single (room : ℕ) (w : Walk) : Type 0 where

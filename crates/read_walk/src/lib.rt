@@ -12,8 +12,7 @@ ghost use Rattle.format.specs.Runs.{read_run};
 ghost use Rattle.read_row.specs.Chunks.{DecodedAs};
 ghost use Rattle.read_walk.specs.Walks.{Kept, entries, next_chunk, Going, left, stores, InPass, Walking};
 
-use format::{ColumnRow, Refusal, Stored, WindowRow};
-use read_row::reader::Decoded;
+use format::{ColumnRow, Refusal, WindowRow};
 
 // A walk under way: in the pass at hand, the rows before `at` are done, and `n` entries were found for them. While it is going on, it stores or only looks; then
 // its answer stands. A lookup that has turned to its second pass has its answer before it is over. Row 0 is row `base` of the column.
@@ -26,7 +25,7 @@ pub struct Walk {
     pub n: usize,
     pub storing: bool,
     pub going: bool,
-    pub answer: Stored,
+    pub answer: Result<usize, Refusal>,
 }
 
 // The column's row that the chunk at hand begins with.
@@ -52,7 +51,7 @@ pub fn chunk_of(w: Walk) -> usize
 }
 
 // The end of a walk, with its answer.
-pub fn over(w: Walk, answer: Stored) -> Walk
+pub fn over(w: Walk, answer: Result<usize, Refusal>) -> Walk
     ensures { (result.going ≡ false) × (result.answer ≡ answer) }
 {
     Walk {
@@ -90,13 +89,13 @@ fn advanced(w: Walk, size: usize, n: usize, room: usize) -> Walk
         };
     }
     if w.storing {
-        return over(w, Stored::Entries(total));
+        return over(w, Ok(total));
     }
     if room < total {
-        return over(w, Stored::Refused(Refusal::ListShort { found: total }));
+        return over(w, Err(Refusal::ListShort { found: total }));
     }
     if total == 0 {
-        return over(w, Stored::Entries(0));
+        return over(w, Ok(0));
     }
     Walk {
         base: w.base,
@@ -106,34 +105,34 @@ fn advanced(w: Walk, size: usize, n: usize, room: usize) -> Walk
         n: 0,
         storing: true,
         going: true,
-        answer: Stored::Entries(total),
+        answer: Ok(total),
     }
 }
 
 // Whether a chunk is stored: the pass stores, and the chunk has its values.
-pub fn stores(w: Walk, decoded: Decoded) -> bool
+pub fn stores(w: Walk, decoded: Result<(), Refusal>) -> bool
     ensures { result ≡ stores w decoded }
 {
     match decoded {
-        Decoded::Whole => w.storing,
-        Decoded::Refused(_) => false,
+        Ok(()) => w.storing,
+        Err(_) => false,
     }
 }
 
 // Internal: asks for a walk that is going on, and the chunk at hand. Behind the chunk that was decoded: a refused row ends the walk, or it goes on.
-pub fn behind(w: Walk, decoded: Decoded, size: usize, n: usize, room: usize) -> Walk
+pub fn behind(w: Walk, decoded: Result<(), Refusal>, size: usize, n: usize, room: usize) -> Walk
     requires { Going w × (size ≡ next_chunk w) × (n ≤ size) }
     ensures walking { (k : Kept) (read : ℕ → Outcome ℕ) (window : Window) (o : Outcome (List ℕ)) (before list values : List ℕ) → InPass k read window o before w list → DecodedAs (read_run read w.at size) decoded values → n ≡ length (entries k w.at values) → room ≡ length before → Walking k read window o before result (pick (stores w decoded) (sets list w.n (entries k w.at values)) list) }
     ensures result_bound { left result < left w }
 {
     match decoded {
-        Decoded::Whole => advanced(w, size, n, room),
-        Decoded::Refused(why) => over(w, Stored::Refused(why)),
+        Ok(()) => advanced(w, size, n, room),
+        Err(why) => over(w, Err(why)),
     }
 }
 
 // What a walk that is over found.
-pub fn answer(w: Walk) -> Stored
+pub fn answer(w: Walk) -> Result<usize, Refusal>
     ensures { (o : Outcome (List ℕ)) (before list : List ℕ) → StoredAs o w.answer before list → StoredAs o result before list }
 {
     w.answer

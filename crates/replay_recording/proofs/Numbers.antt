@@ -1,9 +1,9 @@
 -- Laws of a recording's numbers and tests.
 --     number_none, number_four, number_eight      a number that leaves the recording, and its bytes
 --     header_is, record_is, listed_is             the header, a record and a row number
---     Standing, stands_first, stands_next, stands_stops, stands_last      a loop that tests every record
+--     standing, placed_each                       a record's row numbers, and every record's
 -- Assumes nothing.
-use Prim.Native.Nat.{ℕ, suc, ◌+◌, ◌-◌, ◌*◌, ◌≤◌, ◌<◌}
+use Prim.Native.Nat.{ℕ, zero, suc, ◌+◌, ◌*◌, ◌≤◌, ◌<◌}
 use mathlib.Core.Path.{◌≡◌, refl, sym, ap, ◌∙◌}
 use mathlib.Core.Bool.{Bool, true, false, ◌&&◌}
 use mathlib.Core.List.{List}
@@ -12,6 +12,7 @@ use native.Mathlib.Omega.{arith}
 use lib.Dec.{leb}
 use lib.ListN.{length, get_or}
 use borrow.Author.Tests.{le-leb, lt-leb}
+use Rattle.std.specs.List.{list_all, range_with_len}
 use Rattle.format.specs.declared.Recording.{Recording}
 use Rattle.format.specs.declared.Recorded.{Recorded}
 use Rattle.format.specs.Packing.{bytes_num}
@@ -83,31 +84,10 @@ module _ (h : Recording) (s : List ℕ) where
   abbrev pub standing : ℕ → Bool
   standing k = leb ((record_at h s k).place + (record_at h s k).many) h.numbers
 
-  -- all are tested, if those from k on are
-  pub record Standing (k : ℕ) : Type 0 where
-    pub most : k ≤ h.records
-    pub rest : placed h s 0 h.records ≡ placed h s k (h.records - k)
-
-  pub stands_first : Standing 0
-  stands_first = let all : h.records ≡ h.records - 0 = omega arith in record { most = omega arith; rest = ap (placed h s 0) all }
-
-  step : (k : ℕ) → k < h.records → placed h s k (h.records - k) ≡ (standing k && placed h s (k + 1) (h.records - (k + 1)))
+  pub placed_each : (k n : ℕ) → placed h s k n ≡ list_all standing (range_with_len k n)
   unfolding placed
-  step k less =
-      let more : h.records - k ≡ suc (h.records - (k + 1)) = omega arith in
-      rw (more, add-one k) refl
-
-  pub stands_next : {k : ℕ} {t : Bool} → Standing k → k < h.records → t ≡ standing k → t ≡ true → Standing (k + 1)
-  stands_next {k} {t} f less e is = record { most = omega arith; rest = f.rest ∙ step k less ∙ rw (sym e ∙ is) refl }
-
-  pub stands_stops : {k : ℕ} {t : Bool} → Standing k → k < h.records → t ≡ standing k → t ≡ false → false ≡ placed h s 0 h.records
-  stands_stops {k} {t} f less e is = sym (f.rest ∙ step k less ∙ rw (sym e ∙ is) refl)
-
-  pub stands_last : {k : ℕ} → Standing k → h.records ≤ k → true ≡ placed h s 0 h.records
-  unfolding placed
-  stands_last {k} f last =
-      let none : h.records - k ≡ 0 = omega arith in
-      sym (f.rest ∙ rw none refl)
+  placed_each k zero = refl
+  placed_each k (suc n) = rw add-one (ap (λ (t : Bool). standing k && t) (placed_each (suc k) n))
 
 -- ---- whether a recording is one
 

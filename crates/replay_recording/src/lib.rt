@@ -129,14 +129,7 @@ fn stands(recording: &[u8], head: Recording, k: u32) -> bool
 fn all_stand(recording: &[u8], head: Recording) -> bool
     ensures { result ≡ placed head recording.now 0 head.records }
 {
-    let mut k = 0;
-    while k < head.records {
-        if !stands(recording, head, k) {
-            return false;
-        }
-        k += 1;
-    }
-    true
+    (0..head.records).all(|k| stands(recording, head, k))
 }
 
 // Whether the regions lie where they may.

@@ -1,13 +1,12 @@
 -- Comparing found rows with the recorded ones as they come.
 --     come_next, come_none                          the recorded rows still to come
 --     missed, too_many, another, met                one row
---     Meeting, meet_starts, meet_more, meet_stops, meet_ends      a loop over a list of values
+--     Meeting, meet_more, meet_stops, meet_ends      a loop over a list of values
 -- Assumes nothing.
 use Prim.Native.Nat.{ℕ, suc, ◌+◌, ◌-◌, ◌≤◌, ◌<◌}
 use mathlib.Core.Path.{◌≡◌, refl, sym, ap, ◌∙◌}
 use mathlib.Core.Bool.{Bool, true, false}
 use mathlib.Core.List.{List, [], ◌∷◌, ◌++◌}
-use native.Mathlib.Nat.{add-zero}
 use native.Mathlib.Omega.{arith}
 use lib.ListN.{length, drop, get_or}
 use borrow.Author.Tests.{eq-eqb, ne_eqb}
@@ -61,9 +60,6 @@ module _ (h : Recording) (s : List ℕ) (r : Recorded) where
     pub record Meeting (before n i : ℕ) : Type 0 where
       pub few : n ≤ r.many
       pub rest : (rest : List ℕ) → same_rows (rows_among test row values ++ rest) (to_come h s r before) ≡ same_rows (rows_among test (row + i) (drop i values) ++ rest) (to_come h s r n)
-
-    pub meet_starts : (before : ℕ) → before ≤ r.many → Meeting before before 0
-    meet_starts before few = record { few = few; rest = λ rest. ap (λ (x : ℕ). same_rows (rows_among test x values ++ rest) (to_come h s r before)) (sym (add-zero row)) }
 
     module _ {before n i : ℕ} (f : Meeting before n i) (less : i < length values) (t : Bool) (m : ℕ)
         (here : (rest : List ℕ) → same_rows (pick (test (get_or values i 0)) ((row + i) ∷ rest) rest) (to_come h s r n) ≡ pick t (same_rows rest (to_come h s r m)) false) where

@@ -3,15 +3,16 @@
 --     done_agrees, done_differs                                a record with no rows left
 --     whole, onward, differ_at, all_done, refused, begins      from record to record
 --     ended, goes_on, is_over, is_on_hand, left-over           the phase by what the state says
---     Skipping, skip_starts, skip_differs, skip_more           over records without rows
+--     Skipping, skip_differs, skip_more                        over records without rows
 --     at_hand, hand_left                                       the next that has some
 --     refuses, strays, goes_later, stops_short, next_record    a record at hand, behind a chunk
 --     left_some, left_later, left_next                         what is left falls
 -- Assumes nothing.
+use Rattle.format.specs.declared.Report.{Report}
+use Rattle.std.specs.Prelude.{Option, Some, None, Result, Ok, Err}
 use Prim.Native.Nat.{ℕ, suc, ◌+◌, ◌-◌, ◌*◌, ◌^◌, ◌≤◌, ◌<◌, min}
 use mathlib.Core.Path.{◌≡◌, refl, sym, ap, ◌∙◌}
 use mathlib.Core.Bool.{Bool, true, false}
-use mathlib.Core.Option.{Option, none, some}
 use mathlib.Core.List.{List, [], ◌++◌}
 use native.Mathlib.Nat.{add-zero}
 use native.Mathlib.Numerals.{add-one}
@@ -20,11 +21,9 @@ use Rattle.format.specs.declared.Recording.{Recording}
 use Rattle.format.specs.declared.Recorded.{Recorded}
 use Rattle.format.specs.declared.Refusal.{Refusal}
 use Rattle.format.specs.declared.Refusal.TheVariants.{BadRecording}
-use Rattle.format.specs.declared.Replayed.{Replayed}
-use Rattle.format.specs.declared.Replayed.TheVariants.{Agree, Differ, Refused}
 use Rattle.format.specs.Lookup.{all_read, rows_passing, within}
 use Rattle.format.specs.Outcome.{Outcome, Outcome.value, Outcome.refusal, ◌>>◌, pick}
-use Rattle.format.specs.Refusals.{numbered, replayed_meaning}
+use Rattle.format.specs.Refusals.{numbered, answered_by}
 use Rattle.format.specs.Replaying.{header_of, record_at, same_rows, are_rows, found_are, agrees, first_differing, reported, is_recording, replayed}
 use Rattle.format.specs.Runs.{read_run}
 use Rattle.format.proofs.Tests.{when, unless, as_when, as_unless}
@@ -91,7 +90,7 @@ module _ (read : ℕ → Outcome ℕ) (rows : ℕ) (s : List ℕ) (h : Recording
       rw (← is, cut, add-zero r.place, all) refl
 
   first_step : (k : ℕ) → k < h.records
-      → first_differing (agrees read rows h s) k (h.records - k) ≡ pick (agrees read rows h s k) (first_differing (agrees read rows h s) (k + 1) (h.records - (k + 1))) (some k)
+      → first_differing (agrees read rows h s) k (h.records - k) ≡ pick (agrees read rows h s k) (first_differing (agrees read rows h s) (k + 1) (h.records - (k + 1))) (Some k)
   unfolding first_differing
   first_step k less =
       let more : h.records - k ≡ suc (h.records - (k + 1)) = omega arith in
@@ -109,16 +108,16 @@ module _ (read : ℕ → Outcome ℕ) (rows : ℕ) (s : List ℕ) (h : Recording
       let all : h.records ≡ h.records - 0 = omega arith in
       record { header = f.header; sound = f.sound; rest = ap (first_differing (agrees read rows h s) 0) all }
 
-  pub differ_at : {k : ℕ} → Onward read rows s h k → k < h.records → agrees read rows h s k ≡ false → replayed_meaning (Differ k (k + 1)) ≡ replayed read rows s
-  differ_at {k} f less is = sym (told (begun f) (some k) (f.rest ∙ first_step k less ∙ rw is refl))
+  pub differ_at : {k : ℕ} → Onward read rows s h k → k < h.records → agrees read rows h s k ≡ false → answered_by (Ok (record { differing = Some k; run = k + 1 })) ≡ replayed read rows s
+  differ_at {k} f less is = sym (told (begun f) (Some k) (f.rest ∙ first_step k less ∙ rw is refl))
 
-  pub all_done : {k : ℕ} → Onward read rows s h k → h.records ≤ k → replayed_meaning (Agree h.records) ≡ replayed read rows s
+  pub all_done : {k : ℕ} → Onward read rows s h k → h.records ≤ k → answered_by (Ok (record { differing = None; run = h.records })) ≡ replayed read rows s
   unfolding first_differing
   all_done {k} f last =
       let over : h.records - k ≡ 0 = omega arith in
-      sym (told (begun f) none (f.rest ∙ rw over refl))
+      sym (told (begun f) None (f.rest ∙ rw over refl))
 
-pub refused : (read : ℕ → Outcome ℕ) (rows : ℕ) (s : List ℕ) → is_recording s ≡ false → replayed_meaning (Refused BadRecording) ≡ replayed read rows s
+pub refused : (read : ℕ → Outcome ℕ) (rows : ℕ) (s : List ℕ) → is_recording s ≡ false → answered_by (Err BadRecording) ≡ replayed read rows s
 unfolding replayed
 refused read rows s is = rw is refl
 
@@ -131,15 +130,15 @@ begins read rows s {h} is sound =
 
 module _ (read : ℕ → Outcome ℕ) (rows : ℕ) (s : List ℕ) (w : Walk) where
   abbrev Over : Type 0
-  Over = replayed_meaning w.answer ≡ replayed read rows s
+  Over = answered_by w.answer ≡ replayed read rows s
 
-  pub ended : {a : Replayed} → w.going ≡ false → w.answer ≡ a → replayed_meaning a ≡ replayed read rows s → Replaying read rows s w
-  ended e is f = record { phase = as_unless (OnHand read rows s w) Over w.going e (ap replayed_meaning is ∙ f) }
+  pub ended : {a : Result Report Refusal} → w.going ≡ false → w.answer ≡ a → answered_by a ≡ replayed read rows s → Replaying read rows s w
+  ended e is f = record { phase = as_unless (OnHand read rows s w) Over w.going e (ap answered_by is ∙ f) }
 
   pub goes_on : OnHand read rows s w → Replaying read rows s w
   goes_on f = record { phase = as_when (OnHand read rows s w) Over w.going f.going.on f }
 
-  pub is_over : Replaying read rows s w → w.going ≡ false → replayed_meaning w.answer ≡ replayed read rows s
+  pub is_over : Replaying read rows s w → w.going ≡ false → answered_by w.answer ≡ replayed read rows s
   is_over f e = unless (OnHand read rows s w) Over w.going e f.phase
 
   pub is_on_hand : Replaying read rows s w → w.going ≡ true → OnHand read rows s w
@@ -157,12 +156,9 @@ pub record Skipping (rows : ℕ) (s : List ℕ) (h : Recording) (k i : ℕ) : Ty
   pub to : i ≤ h.records
   pub rest : (read : ℕ → Outcome ℕ) → Onward read rows s h k → Onward read rows s h i
 
-pub skip_starts : (rows : ℕ) (s : List ℕ) (h : Recording) (k : ℕ) → k ≤ h.records → Skipping rows s h k k
-skip_starts rows s h k to = record { from = omega arith; to = to; rest = λ read f. f }
-
 module _ {rows : ℕ} {s : List ℕ} {h : Recording} {k i : ℕ} (f : Skipping rows s h k i) (less : i < h.records) {r : Recorded} {end : ℕ} (is : r ≡ record_at h s i) (cut : end ≡ min r.end rows) where
   abbrev pub handed : Walk
-  handed = record { head = h; k = i; item = r; at = r.first; end = end; n = 0; going = true; answer = Agree 0 }
+  handed = record { head = h; k = i; item = r; at = r.first; end = end; n = 0; going = true; answer = Ok (record { differing = None; run = 0 }) }
 
   pub at_hand : r.first < end → (read : ℕ → Outcome ℕ) → Onward read rows s h k → Replaying read rows s handed
   at_hand to read o =
@@ -176,7 +172,7 @@ module _ {rows : ℕ} {s : List ℕ} {h : Recording} {k i : ℕ} (f : Skipping r
   hand_left small = omega (arith, f.from)
 
   module _ (last : end ≤ r.first) where
-    pub skip_differs : 0 < r.many → (read : ℕ → Outcome ℕ) → Onward read rows s h k → replayed_meaning (Differ i (i + 1)) ≡ replayed read rows s
+    pub skip_differs : 0 < r.many → (read : ℕ → Outcome ℕ) → Onward read rows s h k → answered_by (Ok (record { differing = Some i; run = i + 1 })) ≡ replayed read rows s
     skip_differs more read o =
         differ_at read rows s h (f.rest read o) less
         (whole read rows s h i r end is cut ∙ done_differs read (within r.low r.high) h s r 0 r.first end last more)
@@ -200,12 +196,12 @@ module _ {read : ℕ → Outcome ℕ} {rows : ℕ} {s : List ℕ} {w : Walk} (f 
   awaited = to_come w.head s w.item w.n
 
   -- a refused row differs
-  pub refuses : (x : Refusal) → read_run read w.at size ≡ numbered x → replayed_meaning (Differ w.k (w.k + 1)) ≡ replayed read rows s
+  pub refuses : (x : Refusal) → read_run read w.at size ≡ numbered x → answered_by (Ok (record { differing = Some w.k; run = w.k + 1 })) ≡ replayed read rows s
   refuses x run = differ_at read rows s w.head f.onward f.going.listed (f.here ∙ chunk_refused read sought w.at w.end size to awaited _ _ run)
 
   module _ (values : List ℕ) (run : read_run read w.at size ≡ value values) where
     -- so does a row that is not the next recorded one
-    pub strays : ((rest : List ℕ) → same_rows (rows_among sought w.at values ++ rest) awaited ≡ false) → replayed_meaning (Differ w.k (w.k + 1)) ≡ replayed read rows s
+    pub strays : ((rest : List ℕ) → same_rows (rows_among sought w.at values ++ rest) awaited ≡ false) → answered_by (Ok (record { differing = Some w.k; run = w.k + 1 })) ≡ replayed read rows s
     strays other = differ_at read rows s w.head f.onward f.going.listed (f.here ∙ chunk_differs read sought w.at w.end size to awaited values run other)
 
     module _ (n : ℕ) (same : (rest : List ℕ) → same_rows (rows_among sought w.at values ++ rest) awaited ≡ same_rows rest (to_come w.head s w.item n)) where
@@ -213,7 +209,7 @@ module _ {read : ℕ → Outcome ℕ} {rows : ℕ} {s : List ℕ} {w : Walk} (f 
       later = f.here ∙ chunk_met read sought w.at w.end size to awaited values run (to_come w.head s w.item n) same
 
       abbrev pub moved : Walk
-      moved = record { head = w.head; k = w.k; item = w.item; at = w.at + size; end = w.end; n = n; going = true; answer = Agree 0 }
+      moved = record { head = w.head; k = w.k; item = w.item; at = w.at + size; end = w.end; n = n; going = true; answer = Ok (record { differing = None; run = 0 }) }
 
       pub goes_later : w.at + size < w.end → n ≤ w.item.many → Replaying read rows s moved
       goes_later more few =
@@ -223,7 +219,7 @@ module _ {read : ℕ → Outcome ℕ} {rows : ℕ} {s : List ℕ} {w : Walk} (f 
             here = later;
           })
 
-      pub stops_short : w.end ≤ w.at + size → n < w.item.many → replayed_meaning (Differ w.k (w.k + 1)) ≡ replayed read rows s
+      pub stops_short : w.end ≤ w.at + size → n < w.item.many → answered_by (Ok (record { differing = Some w.k; run = w.k + 1 })) ≡ replayed read rows s
       stops_short last more = differ_at read rows s w.head f.onward f.going.listed (later ∙ done_differs read sought w.head s w.item n (w.at + size) w.end last more)
 
       pub next_record : w.end ≤ w.at + size → w.item.many ≤ n → Onward read rows s w.head (w.k + 1)

@@ -1,5 +1,6 @@
 -- A replay under way: what is left of the record at hand and of those behind it. Over any reading.
 -- Assumes nothing.
+use Rattle.format.specs.Refusals.{answered_by}
 use Rattle.std.specs.Prelude.{ℕ, ◌+◌, ◌-◌, ◌*◌, ◌/◌, ◌%◌, ◌^◌, ◌≤◌, ◌<◌, ◌≡◌, Bool, true, false, List, ◌++◌, length}
 use Rattle.format.specs.declared.Block.{Block}
 use Rattle.format.specs.declared.Column.{Column}
@@ -8,7 +9,6 @@ use Rattle.format.specs.declared.Recorded.{Recorded}
 use Rattle.format.specs.Lookup.{within}
 use Rattle.format.specs.Outcome.{Outcome, pick}
 use Rattle.format.specs.Reading.{column_row, block_at, row_at}
-use Rattle.format.specs.Refusals.{replayed_meaning}
 use Rattle.format.specs.Replaying.{header_of, listed_from, is_recording, same_rows, found_are, agrees, first_differing, replayed}
 use Rattle.replay_walk.specs.declared.walking.Walk.{Walk}
 
@@ -43,7 +43,7 @@ pub record OnHand (read : ℕ → Outcome ℕ) (rows : ℕ) (s : List ℕ) (w : 
 
 -- a replay under way: with a record at hand, or over
 pub record Replaying (read : ℕ → Outcome ℕ) (rows : ℕ) (s : List ℕ) (w : Walk) : Type 0 where
-  pub phase : pick w.going (OnHand read rows s w) (replayed_meaning w.answer ≡ replayed read rows s)
+  pub phase : pick w.going (OnHand read rows s w) (answered_by w.answer ≡ replayed read rows s)
 
 -- a turn with the block of the row at hand, out of a table of so many, goes on with a replay by that table
 abbrev pub Keeps : (column : Column) (blocks : ℕ) (block : Block) (bytes s : List ℕ) (w r : Walk) → Type 0

@@ -1,18 +1,16 @@
 // A replay under way: a chunk comes with its block, whoever has the blocks. Found rows are compared with the recorded ones as they come, so no list is lent.
-ghost use Rattle.std.specs.Prelude.{◌≡◌, true, false, List, ◌∷◌, ◌++◌, ℕ, ◌+◌, ◌-◌, ◌*◌, ◌/◌, ◌%◌, ◌^◌, ◌≤◌, ◌<◌, length};
+ghost use Rattle.std.specs.Prelude.{◌≡◌, true, false, List, ◌∷◌, ◌++◌, ℕ, ◌+◌, ◌-◌, ◌*◌, ◌/◌, ◌%◌, ◌^◌, ◌≤◌, ◌<◌, length, Some, Ok};
 ghost use Rattle.format.specs.Outcome.{Outcome, Outcome.value, pick};
 ghost use Rattle.format.specs.Lookup.{within};
 ghost use Rattle.format.specs.Reading.{column_row};
 ghost use Rattle.format.specs.Replaying.{same_rows};
-ghost use Rattle.format.specs.declared.Replayed.TheVariants.{Differ};
 ghost use Rattle.format.specs.Runs.{read_run};
 ghost use Rattle.read_row.specs.Chunks.{DecodedAs, chunk_size};
 ghost use Rattle.read_chunk.specs.Rows.{rows_among};
 ghost use Rattle.replay_walk.specs.Walking.{to_come, Onward, UnderWay, OnHand, Replaying, left, Keeps, Meets};
 
-use format::{Block, Column, Recorded, Recording, Refusal, Replayed, WindowRow};
+use format::{Block, Column, Recorded, Recording, Refusal, Report, WindowRow};
 use read_chunk::{cut, within};
-use read_row::reader::Decoded;
 use replay_recording::{header_of, is_recording, listed_at, record_at};
 
 // Record k is at hand: its rows before `at` are done, and the first n recorded ones were found among them. While the replay is going on there are rows left; then its answer stands.
@@ -25,25 +23,8 @@ pub struct Walk {
     pub end: u32,
     pub n: u32,
     pub going: bool,
-    pub answer: Replayed,
+    pub answer: Result<Report, Refusal>,
 }
-
-// A record and a header of zeros, for a replay that is over.
-const NOTHING: Recorded = Recorded {
-    low: 0,
-    high: 0,
-    first: 0,
-    end: 0,
-    place: 0,
-    many: 0,
-};
-
-const NO_RECORDING: Recording = Recording {
-    records: 0,
-    start: 0,
-    numbers: 0,
-    list: 0,
-};
 
 // Whether rows that were found are the recorded ones so far, and how many recorded ones that makes.
 #[derive(Clone, Copy)]
@@ -56,8 +37,7 @@ pub struct Met {
 pub fn block_of(column: Column, w: Walk) -> usize
     ensures { result ≡ column_row column w.at % 2 ^ 32 / 512 }
 {
-    let row = read_row::reader::column_row(column.window.first, WindowRow(w.at));
-    blockwise_rows::reader::split(row).block
+    read_row::reader::block_of(column, WindowRow(w.at))
 }
 
 // Internal: asks that no more are met than recorded. One row with its value, of which n recorded rows came before: it is not looked for, it is the next recorded one, or it differs.
@@ -95,26 +75,24 @@ fn met_all(
     ensures n_le_many { result.n ≤ item.many }
 {
     let mut n = before;
-    let mut i = 0;
-    while i < values.len() {
-        let met = met_one(recording, head, item, row + i as u32, values[i], n);
+    for (i, value) in values.iter().enumerate() {
+        let met = met_one(recording, head, item, row + i as u32, *value, n);
         if !met.same {
             return met;
         }
         n = met.n;
-        i += 1;
     }
     Met { same: true, n }
 }
 
 // The end of a replay, with its answer.
-fn over(answer: Replayed) -> Walk
+fn over(answer: Result<Report, Refusal>) -> Walk
     ensures { (result.going ≡ false) × (result.answer ≡ answer) }
 {
     Walk {
-        head: NO_RECORDING,
+        head: Recording::default(),
         k: 0,
-        item: NOTHING,
+        item: Recorded::default(),
         at: 0,
         end: 0,
         n: 0,
@@ -126,12 +104,12 @@ fn over(answer: Replayed) -> Walk
 // Internal: asks for a record at hand. The end of a replay at that record, which differs.
 fn differs(w: Walk) -> Walk
     requires { w.k < w.head.records }
-    ensures { (result.going ≡ false) × (result.answer ≡ Differ w.k (w.k + 1)) }
+    ensures { (result.going ≡ false) × (result.answer ≡ Ok (record { differing = Some w.k; run = w.k + 1 })) }
 {
-    over(Replayed::Differ {
-        index: w.k,
+    over(Ok(Report {
+        differing: Some(w.k),
         run: w.k + 1,
-    })
+    }))
 }
 
 // Internal: asks for a record, or for the end of the records. Goes on with the records from k on: the first that has rows to read is at hand. One that has none agrees
@@ -141,8 +119,7 @@ fn go_on(rows: u32, recording: &[u8], head: Recording, k: u32) -> Walk
     ensures by_index { (read : ℕ → Outcome ℕ) → Onward read rows recording.now head k → Replaying read rows recording.now result }
     ensures result_bound { left result < (head.records - k) * 2 ^ 32 + 2 ^ 32 }
 {
-    let mut i = k;
-    while i < head.records {
+    for i in k..head.records {
         let item = record_at(recording, head, i);
         let end = cut(item.end, rows);
         if item.first < end {
@@ -154,18 +131,23 @@ fn go_on(rows: u32, recording: &[u8], head: Recording, k: u32) -> Walk
                 end,
                 n: 0,
                 going: true,
-                answer: Replayed::Agree { run: 0 },
+                answer: Ok(Report {
+                    differing: None,
+                    run: 0,
+                }),
             };
         }
         if 0 < item.many {
-            return over(Replayed::Differ {
-                index: i,
+            return over(Ok(Report {
+                differing: Some(i),
                 run: i + 1,
-            });
+            }));
         }
-        i += 1;
     }
-    over(Replayed::Agree { run: head.records })
+    over(Ok(Report {
+        differing: None,
+        run: head.records,
+    }))
 }
 
 // How a replay begins: with the test of the recording, before any lookup.
@@ -173,7 +155,7 @@ pub fn begin(rows: u32, recording: &[u8]) -> Walk
     ensures { (read : ℕ → Outcome ℕ) → Replaying read rows recording.now result }
 {
     if !is_recording(recording) {
-        return over(Replayed::Refused(Refusal::BadRecording));
+        return over(Err(Refusal::BadRecording));
     }
     go_on(rows, recording, header_of(recording), 0)
 }
@@ -196,7 +178,10 @@ fn behind(rows: u32, recording: &[u8], w: Walk, size: usize, n: u32) -> Walk
             end: w.end,
             n,
             going: true,
-            answer: Replayed::Agree { run: 0 },
+            answer: Ok(Report {
+                differing: None,
+                run: 0,
+            }),
         };
     }
     if n < item.many {
@@ -206,12 +191,19 @@ fn behind(rows: u32, recording: &[u8], w: Walk, size: usize, n: u32) -> Walk
 }
 
 // Internal: asks for a record at hand, and a chunk of its rows. Behind a chunk that was decoded, and whose rows were met or not: a refused row, or one that was not recorded, ends the replay.
-fn turned(rows: u32, recording: &[u8], w: Walk, decoded: Decoded, size: usize, met: Met) -> Walk
+fn turned(
+    rows: u32,
+    recording: &[u8],
+    w: Walk,
+    decoded: Result<(), Refusal>,
+    size: usize,
+    met: Met,
+) -> Walk
     requires { (w.going ≡ true) × (0 < size) × (w.at + size ≤ w.end) × (w.k < w.head.records) × (met.n ≤ w.item.many) }
     ensures by_index { (read : ℕ → Outcome ℕ) (values : List ℕ) → OnHand read rows recording.now w → DecodedAs (read_run read w.at size) decoded values → Meets w.head recording.now w.item (rows_among (within w.item.low w.item.high) w.at values) w.n met.n met.same → Replaying read rows recording.now result }
     ensures result_bound { left result < left w }
 {
-    if let Decoded::Refused(_) = decoded {
+    if let Err(_) = decoded {
         return differs(w);
     }
     if !met.same {

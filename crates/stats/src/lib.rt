@@ -1,17 +1,15 @@
 // The head of a column, which holds its statistics, and what is worked out of them: the bounds, and the value so many steps above the least.
 #![tactic(auto)]
 
+ghost use Rattle.std.specs.Option.{option_or};
 ghost use Rattle.std.specs.Prelude.{◌≡◌, ◌+◌, ◌*◌, ◌^◌, ◌≤◌, ◌<◌, ltb, length};
 ghost use Rattle.format.specs.Outcome.{Wrote};
-ghost use Rattle.format.specs.Refusals.{row_meaning};
-ghost use Rattle.format.specs.Varint.{first_of};
 ghost use Rattle.format.specs.Reading.{scaled};
 ghost use Rattle.format.specs.Stats.{count_of, spell_head, read_head};
-ghost use Rattle.stats.specs.Meaning.{head_meaning};
 ghost use Rattle.stats.specs.Asked.{Sound};
+ghost use Rattle.format.specs.Refusals.{answered_by};
 
-use format::{Column, ColumnRow, ColumnStats, Field, Head, Refusal, RowRead, Spelling};
-use vint::VintRead;
+use format::{Column, ColumnRow, ColumnStats, Field, Head, Refusal};
 
 // Internal: asks for a gcd above 0 and a minimum that is not above the maximum. How many steps of the gcd lead from the minimum to the maximum.
 pub fn count_of(stats: ColumnStats) -> u64
@@ -63,69 +61,48 @@ pub fn bounds_fit(minimum: u64, count: u64, gcd: u64) -> bool
 }
 
 // Internal: asks for a maximum of 64 bits. The value so many steps of the gcd above the minimum, which stands in a row of the column.
-pub fn scaled(column: Column, row: ColumnRow, multiple: u64) -> RowRead
+pub fn scaled(column: Column, row: ColumnRow, multiple: u64) -> Result<u64, Refusal>
     requires { column.minimum + column.count * column.gcd < 2 ^ 64 }
-    ensures { row_meaning result ≡ scaled column row.0 multiple }
+    ensures { answered_by result ≡ scaled column row.0 multiple }
 {
     if column.count < multiple {
-        return RowRead::Refused(Refusal::OutOfBounds { row: row.0 });
+        return Err(Refusal::OutOfBounds { row: row.0 });
     }
-    RowRead::Value(column.minimum + column.gcd * multiple)
-}
-
-// What reading a head finds.
-#[derive(Clone, Copy)]
-pub enum HeadRead {
-    Head(Head),
-    Refused(Refusal),
+    Ok(column.minimum + column.gcd * multiple)
 }
 
 // How the head's numbers are spelled.
-fn spelled(minimum: Field, gcd: Field, count: Field, rows: Field) -> Spelling
-    ensures { result ≡ first_of minimum.spelling (first_of gcd.spelling (first_of count.spelling rows.spelling)) }
+fn spelled(minimum: Field, gcd: Field, count: Field, rows: Field) -> Option<usize>
+    ensures { result ≡ option_or minimum.longer (option_or gcd.longer (option_or count.longer rows.longer)) }
 {
-    let first = minimum.spelling;
-    let second = gcd.spelling;
-    let third = count.spelling;
-    let fourth = rows.spelling;
-    first.or_later(second.or_later(third.or_later(fourth)))
+    let later = gcd.longer.or(count.longer.or(rows.longer));
+    minimum.longer.or(later)
 }
 
 // The head after the code byte, field by field.
-pub fn head_read(s: &[u8]) -> HeadRead
-    ensures { head_meaning result ≡ read_head s.now }
+#[tactic(auto, unfolding(format::specs::Stats::read_head))]
+pub fn head_read(s: &[u8]) -> Result<Head, Refusal>
+    ensures { answered_by result ≡ read_head s.now }
 {
-    let minimum = match vint::read(s, 1) {
-        VintRead::Value(v) => v,
-        VintRead::Refused(r) => return HeadRead::Refused(r),
-    };
-    let gcd = match vint::read(s, minimum.next) {
-        VintRead::Value(v) => v,
-        VintRead::Refused(r) => return HeadRead::Refused(r),
-    };
+    let minimum = vint::read(s, 1)?;
+    let gcd = vint::read(s, minimum.next)?;
     if gcd.value == 0 {
-        return HeadRead::Refused(Refusal::GcdZero);
+        return Err(Refusal::GcdZero);
     }
-    let count = match vint::read(s, gcd.next) {
-        VintRead::Value(v) => v,
-        VintRead::Refused(r) => return HeadRead::Refused(r),
-    };
+    let count = vint::read(s, gcd.next)?;
     if !bounds_fit(minimum.value, count.value, gcd.value) {
-        return HeadRead::Refused(Refusal::OutOfRange);
+        return Err(Refusal::OutOfRange);
     }
-    let rows = match vint::read(s, count.next) {
-        VintRead::Value(v) => v,
-        VintRead::Refused(r) => return HeadRead::Refused(r),
-    };
+    let rows = vint::read(s, count.next)?;
     if rows.value > 0xffff_ffff {
-        return HeadRead::Refused(Refusal::OutOfRange);
+        return Err(Refusal::OutOfRange);
     }
-    HeadRead::Head(Head {
+    Ok(Head {
         minimum: minimum.value,
         gcd: gcd.value,
         count: count.value,
         rows: rows.value as u32,
         next: rows.next,
-        spelling: spelled(minimum, gcd, count, rows),
+        longer: spelled(minimum, gcd, count, rows),
     })
 }

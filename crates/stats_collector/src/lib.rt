@@ -77,9 +77,8 @@ fn run(kind: Kind, values: &[u64], first: u64, g: Divisor, from: Seen) -> Seen
     ensures { Rest (stored_as kind values.now) first g.by result × (from.next ≤ result.next) }
 {
     let mut seen = from;
-    while seen.next < values.len() {
-        let at = seen.next;
-        let v = monotonic_mapping::stored_of(kind, values[at]);
+    for i in from.next..values.len() {
+        let v = monotonic_mapping::stored_of(kind, values[i]);
         if !stays(v, first, g) {
             return seen;
         }
@@ -110,8 +109,7 @@ pub fn collect(kind: Kind, values: &[u64]) -> ColumnStats
     };
     let mut g = ready(0);
     while seen.next < n {
-        let at = seen.next;
-        let v = monotonic_mapping::stored_of(kind, values[at]);
+        let v = monotonic_mapping::stored_of(kind, values[seen.next]);
         g = joined(v, first, g.by);
         seen = run(kind, values, first, g, extended(seen, v));
     }

@@ -8,6 +8,10 @@
 --     LeavesSame, records_hold                opening by a call, beside opening by numbers: the answer, what is left in the lent table, and every row of any column
 --     held_exactly, numbers-kept              where the flat list is just four numbers a record, it is the table's numbers, before and afterwards
 -- Assumes nothing.
+use Rattle.std.specs.Option.{option_or}
+use Rattle.format.specs.declared.Refusal.{Refusal}
+use Rattle.format.specs.Refusals.{answered_by}
+use Rattle.std.specs.Prelude.{Option, Result}
 use Prim.Native.Nat.{ℕ, zero, suc, ◌+◌, ◌-◌, ◌*◌, ◌/◌, ◌≤◌, ◌<◌, min, suc-le-suc}
 use mathlib.Core.Path.{◌≡◌, refl, sym, ap, ◌∙◌}
 use mathlib.Core.Bool.{Bool, true, false, ◌&&◌}
@@ -25,13 +29,9 @@ use Rattle.format.specs.declared.Codec.TheVariants.{Bitpacked, Linear, Blockwise
 use Rattle.format.specs.declared.Column.{Column}
 use Rattle.format.specs.declared.Fields.{Fields}
 use Rattle.format.specs.declared.Head.{Head}
-use Rattle.format.specs.declared.Opened.{Opened}
-use Rattle.format.specs.declared.RowRead.{RowRead}
 use Rattle.format.specs.Outcome.{Outcome, Outcome.value, Outcome.refusal, ◌>>=◌, ◌>>◌, demand, stored}
 use Rattle.format.specs.Word.{bytes_for}
-use Rattle.format.specs.Varint.{first_of}
 use Rattle.format.specs.Packing.{bytes_num}
-use Rattle.format.specs.Refusals.{opened_meaning, row_meaning}
 use Rattle.format.specs.Stats.{read_head}
 use Rattle.format.specs.Bodies.{block_count}
 use Rattle.format.specs.Opening.{Loaded, Table, column_of, read_fields, block_before, read_blocks, open_bitpacked, open_linear, open_blockwise, open_body, opened, column_in, table_in}
@@ -75,11 +75,11 @@ held (b ∷ t) (suc k) = block_shift b.line.slope b.line.intercept b.bits b.star
 
 -- the blocks of a footer as numbers
 abbrev numbered : Outcome Table → Outcome Numbers
-numbered o = o >>= (λ (t : Table). value (record { list = numbers_of t.blocks; area = t.area; spelling = t.spelling }))
+numbered o = o >>= (λ (t : Table). value (record { list = numbers_of t.blocks; area = t.area; longer = t.longer }))
 
 -- what was opened, as numbers
 abbrev pub as_numbers : Outcome Loaded → Outcome LoadedNumbers
-as_numbers o = o >>= (λ (l : Loaded). value (record { column = l.column; list = numbers_of l.table; spelling = l.spelling }))
+as_numbers o = o >>= (λ (l : Loaded). value (record { column = l.column; list = numbers_of l.table; longer = l.longer }))
 
 pub numbers_read : (k : ℕ) (s : List ℕ) (at start rows : ℕ) → read_numbers k s at start rows ≡ numbered (read_blocks k s at start rows)
 unfolding read_numbers read_blocks numbers_of
@@ -109,7 +109,7 @@ footer_same s h room =
     (go (leb (h.next + 4) (length s)) (leb (h.next + long) end) (leb (block_count h.rows) room) (read_blocks (block_count h.rows) (take end s) (end - long) 0 h.rows) (end - long))
   where
     area : (t : Table) (w : Bool)
-        → (demand w 10 [] >> value (record { column = (blockwise_of h t).column; list = numbers_of t.blocks; spelling = (blockwise_of h t).spelling }))
+        → (demand w 10 [] >> value (record { column = (blockwise_of h t).column; list = numbers_of t.blocks; longer = (blockwise_of h t).longer }))
         ≡ as_numbers (demand w 10 [] >> value (blockwise_of h t))
     area t true = refl
     area t false = refl
@@ -117,7 +117,7 @@ footer_same s h room =
     go : (t u v : Bool) (o : Outcome Table) (to : ℕ)
         → (demand t 10 [] >> (demand u 10 [] >> (demand v 11 (block_count h.rows ∷ []) >> (numbered o
         >>= (λ (n : Numbers). demand (leb (h.next + n.area) to) 10 []
-        >> value (record { column = column_of h h.next n.area Blockwise; list = n.list; spelling = first_of h.spelling n.spelling }))))))
+        >> value (record { column = column_of h h.next n.area Blockwise; list = n.list; longer = option_or h.longer n.longer }))))))
         ≡ as_numbers (demand t 10 [] >> (demand u 10 [] >> (demand v 11 (block_count h.rows ∷ []) >> (o
         >>= (λ (b : Table). demand (leb (h.next + b.area) to) 10 [] >> value (blockwise_of h b))))))
     go false u v o to = refl
@@ -265,18 +265,18 @@ held_stored t table h bs room = record {
 -- ---- for the same bytes
 
 -- beside opening by numbers into a flat list, what a call answered and left in its table: the same answer, the same blocks, and with them the same rows, of any column and any bytes
-pub record LeavesSame (s t : List ℕ) (a : Opened) (after : List Block) : Type 0 where
-  pub answer : opened_meaning a ≡ column_by (opened_numbers s (blocks_in t))
+pub record LeavesSame (s t : List ℕ) (a : Result (Column × Option ℕ) Refusal) (after : List Block) : Type 0 where
+  pub answer : answered_by a ≡ column_by (opened_numbers s (blocks_in t))
   pub table : Holds (stored (numbers_in (opened_numbers s (blocks_in t))) t) after
-  pub rows : (col : Column) (bytes : List ℕ) (r : ℕ) (b : RowRead) → row_meaning b ≡ row_at col after bytes r
-      → row_meaning b ≡ row_by_numbers col (stored (numbers_in (opened_numbers s (blocks_in t))) t) bytes r
+  pub rows : (col : Column) (bytes : List ℕ) (r : ℕ) (b : Result ℕ Refusal) → answered_by b ≡ row_at col after bytes r
+      → answered_by b ≡ row_by_numbers col (stored (numbers_in (opened_numbers s (blocks_in t))) t) bytes r
 
 column_same : (o : Outcome Loaded) → column_in o ≡ column_by (as_numbers o)
 column_same (value l) = refl
 column_same (refusal number also) = refl
 
 -- any bytes, any flat list, and any table of records that holds it
-pub records_hold : (s t : List ℕ) (table after : List Block) → Holds t table → (a : Opened) → OpenedAs (opened s (length table)) a table after → LeavesSame s t a after
+pub records_hold : (s t : List ℕ) (table after : List Block) → Holds t table → (a : Result (Column × Option ℕ) Refusal) → OpenedAs (opened s (length table)) a table after → LeavesSame s t a after
 records_hold s t table after h a e = record {
   answer = e.answer ∙ column_same (opened s (length table)) ∙ ap column_by (sym same);
   table = left;
@@ -313,7 +313,7 @@ kept_long (value xs) l = length-sets l 0 xs
 kept_long (refusal number also) l = refl
 
 -- a lent list of just four numbers for each record of a lent table: the numbers left in it are those of the records left in the table
-pub numbers-kept : (s t : List ℕ) (table after : List Block) → Holds t table → length t ≡ 4 * length table → (a : Opened) → OpenedAs (opened s (length table)) a table after
+pub numbers-kept : (s t : List ℕ) (table after : List Block) → Holds t table → length t ≡ 4 * length table → (a : Result (Column × Option ℕ) Refusal) → OpenedAs (opened s (length table)) a table after
     → stored (numbers_in (opened_numbers s (blocks_in t))) t ≡ numbers_of after
 numbers-kept s t table after h long a e =
     let left = records_hold s t table after h a e in

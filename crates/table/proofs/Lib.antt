@@ -2,10 +2,6 @@
 
 -- the table
 pub mod Tables
--- the walks by hand
-pub mod Types
-pub mod Rounds
-pub mod Filling
 pub mod Opening
 -- what the contracts come to
 pub mod Determined

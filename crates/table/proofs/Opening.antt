@@ -3,13 +3,15 @@
 --     opens            filled in, they make the call's promise
 --     first_sheet      under sheet 1 that is the promise of opening
 -- Assumes nothing.
+use Rattle.format.specs.declared.Refusal.{Refusal}
+use Rattle.format.specs.declared.Column.{Column}
+use Rattle.format.specs.Refusals.{answered_by}
+use Rattle.std.specs.Prelude.{Option, Result}
 use Prim.Native.Nat.{ℕ}
 use mathlib.Core.Path.{◌≡◌, sym, ap, ◌∙◌, subst}
 use mathlib.Core.List.{List}
 use Rattle.format.specs.declared.Block.{Block}
-use Rattle.format.specs.declared.Opened.{Opened}
 use Rattle.format.specs.Outcome.{Outcome, stored}
-use Rattle.format.specs.Refusals.{opened_meaning}
 use Rattle.format.specs.Opening.{opened, column_in}
 use Rattle.format.specs.Sheets.{under_sheet, opened_under}
 use Rattle.format.specs.Calls.{OpenedAs}
@@ -17,9 +19,9 @@ use Rattle.blockwise_linear.specs.Reader.{first_cursor, blocks_from, listed, Fil
 use Rattle.open_column.specs.Opening.{tabled}
 use Rattle.open_column.proofs.Opens.{Tabled, opened-tabled, under_finds, under_table}
 
-module _ (sheet : ℕ) (s : List ℕ) (room : ℕ) (p : Opened) (answer : opened_meaning p ≡ column_in (opened_under sheet s room)) (rows : ℕ) (has : rows ≡ tabled (opened_meaning p)) where
-  tables : Tabled s room (opened s room) (opened_meaning p)
-  tables = opened-tabled s room (opened_meaning p) (under_finds sheet s room (opened_meaning p) answer)
+module _ (sheet : ℕ) (s : List ℕ) (room : ℕ) (p : Result (Column × Option ℕ) Refusal) (answer : answered_by p ≡ column_in (opened_under sheet s room)) (rows : ℕ) (has : rows ≡ tabled (answered_by p)) where
+  tables : Tabled s room (opened s room) (answered_by p)
+  tables = opened-tabled s room (answered_by p) (under_finds sheet s room (answered_by p) answer)
 
   pub fillable : Fillable s rows room
   fillable = subst (λ (n : ℕ). Fillable s n room) (sym has) tables.fillable
@@ -30,9 +32,9 @@ module _ (sheet : ℕ) (s : List ℕ) (room : ℕ) (p : Opened) (answer : opened
         answer = answer;
         table =
             filled ∙ ap (λ (n : ℕ). stored (listed (blocks_from s (first_cursor s n))) before) has ∙ tables.same before
-            ∙ ap (λ (blocks : Outcome (List Block)). stored blocks before) (under_table sheet s room (opened_meaning p) answer);
+            ∙ ap (λ (blocks : Outcome (List Block)). stored blocks before) (under_table sheet s room (answered_by p) answer);
       }
 
-pub first_sheet : (s : List ℕ) (room : ℕ) (p : Opened) (before after : List Block) → OpenedAs (opened_under 1 s room) p before after → OpenedAs (opened s room) p before after
+pub first_sheet : (s : List ℕ) (room : ℕ) (p : Result (Column × Option ℕ) Refusal) (before after : List Block) → OpenedAs (opened_under 1 s room) p before after → OpenedAs (opened s room) p before after
 unfolding under_sheet
 first_sheet s room p before after e = e

@@ -1,17 +1,15 @@
 -- The block table as it was before it held records: a flat list of numbers, four a block: slope, intercept, width, start byte. Opening and reading by it stand here as rules of their own
 -- over the bytes, which make no list of blocks; and when a table of records holds what such a list holds.
 -- Assumes nothing.
-use Rattle.std.specs.Prelude.{ℕ, zero, suc, ◌+◌, ◌-◌, ◌*◌, ◌/◌, ◌<◌, min, ◌≡◌, List, [], ◌∷◌, leb, length, take, drop, get_or}
+use Rattle.std.specs.Option.{option_or}
+use Rattle.std.specs.Prelude.{ℕ, zero, suc, ◌+◌, ◌-◌, ◌*◌, ◌/◌, ◌<◌, min, ◌≡◌, List, [], ◌∷◌, leb, length, take, drop, get_or, Option, None}
 use Rattle.format.specs.declared.Block.{Block}
 use Rattle.format.specs.declared.Codec.TheVariants.{Blockwise}
 use Rattle.format.specs.declared.Column.{Column}
 use Rattle.format.specs.declared.Fields.{Fields}
 use Rattle.format.specs.declared.Head.{Head}
-use Rattle.format.specs.declared.Spelling.{Spelling}
-use Rattle.format.specs.declared.Spelling.TheVariants.{Shortest}
 use Rattle.format.specs.Outcome.{Outcome, Outcome.value, Outcome.refusal, ◌>>=◌, ◌>>◌, demand}
 use Rattle.format.specs.Word.{bytes_for}
-use Rattle.format.specs.Varint.{first_of}
 use Rattle.format.specs.Packing.{bytes_num}
 use Rattle.format.specs.Stats.{read_head}
 use Rattle.format.specs.Bodies.{block_count}
@@ -24,13 +22,13 @@ use Rattle.format.specs.Reading.{column_row, block_at, row_in}
 pub record Numbers : Type 0 where
   pub list : List ℕ
   pub area : ℕ
-  pub spelling : Spelling
+  pub longer : Option ℕ
 
 -- what opening finds: the column, the numbers for the table, and how the fields are spelled
 pub record LoadedNumbers : Type 0 where
   pub column : Column
   pub list : List ℕ
-  pub spelling : Spelling
+  pub longer : Option ℕ
 
 -- a block's four numbers before the later ones
 abbrev pub before : Fields → (start : ℕ) → Numbers → Numbers
@@ -38,12 +36,12 @@ before f start t =
     record {
       list = f.line.slope ∷ f.line.intercept ∷ f.bits ∷ start ∷ t.list;
       area = t.area;
-      spelling = first_of f.spelling t.spelling;
+      longer = option_or f.longer t.longer;
     }
 
 -- k blocks of so many rows: their fields stand from an offset on; each starts where the one before ends, so 64 · width on
 unfoldable pub read_numbers : (k : ℕ) (s : List ℕ) (at start rows : ℕ) → Outcome Numbers
-read_numbers zero s at start rows = value (record { list = []; area = start; spelling = Shortest })
+read_numbers zero s at start rows = value (record { list = []; area = start; longer = None })
 read_numbers (suc k) s at start rows = do
   f ← read_fields s at
   t ← read_numbers k s f.next (start + bytes_for (f.bits * min rows 512)) (rows - 512)
@@ -59,11 +57,11 @@ open_footer s h room = do
   demand (leb (block_count h.rows) room) 11 (block_count h.rows ∷ [])
   t ← read_numbers (block_count h.rows) (take end s) (end - long) 0 h.rows
   demand (leb (h.next + t.area) (end - long)) 10 []
-  value (record { column = column_of h h.next t.area Blockwise; list = t.list; spelling = first_of h.spelling t.spelling })
+  value (record { column = column_of h h.next t.area Blockwise; list = t.list; longer = option_or h.longer t.longer })
 
 -- Bitpacked and Linear have no numbers for a table
 abbrev pub without : Outcome Loaded → Outcome LoadedNumbers
-without o = o >>= (λ (l : Loaded). value (record { column = l.column; list = []; spelling = l.spelling }))
+without o = o >>= (λ (l : Loaded). value (record { column = l.column; list = []; longer = l.longer }))
 
 -- the body of a codec by its number
 unfoldable pub open_body_by : (codec : ℕ) (s : List ℕ) → Head → (room : ℕ) → Outcome LoadedNumbers
@@ -80,8 +78,8 @@ opened_numbers (c ∷ s) room = do
   open_body_by c (c ∷ s) h room
 
 -- what was found, as the column and its spelling
-abbrev pub column_by : Outcome LoadedNumbers → Outcome (Column × Spelling)
-column_by o = o >>= (λ (l : LoadedNumbers). value (l.column, l.spelling))
+abbrev pub column_by : Outcome LoadedNumbers → Outcome (Column × (Option ℕ))
+column_by o = o >>= (λ (l : LoadedNumbers). value (l.column, l.longer))
 
 -- and as the numbers for the table alone
 abbrev pub numbers_in : Outcome LoadedNumbers → Outcome (List ℕ)

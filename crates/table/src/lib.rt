@@ -4,53 +4,26 @@
 // Only `fill` writes a table and only `block_at` reads one; the others pass it on.
 #![tactic(auto)]
 
-ghost use Rattle.std.specs.Prelude.{◌≡◌, ◌/◌, ◌%◌, ◌^◌, length};
+ghost use Rattle.std.specs.Prelude.{◌≡◌, length};
 ghost use Rattle.format.specs.Outcome.{stored};
-ghost use Rattle.format.specs.Reading.{no_block, column_row};
 ghost use Rattle.blockwise_linear.specs.Reader.{first_cursor, blocks_from, listed, Fillable};
 ghost use Rattle.table.specs.Calls.{BlockAs, OpensAs, OpensUnderAs, RowAs, LooksAs, RunsAs};
 
-use format::{Block, Column, Line, Opened, RowRead, Stored, WindowRow};
-
-// The block of a table that has none.
-fn no_block() -> Block
-    ensures { result ≡ no_block }
-{
-    let line = Line {
-        slope: 0,
-        intercept: 0,
-    };
-    Block {
-        line,
-        bits: 0,
-        start: 0,
-    }
-}
+use format::{Block, Column, Refusal, WindowRow};
 
 // Block `k` of a table; a block past the table's end is all zeros.
 pub fn block_at(table: &[Block], k: usize) -> Block
     ensures { BlockAs table.now k result }
 {
-    if k < table.len() {
-        return table[k];
-    }
-    no_block()
-}
-
-// The block that has a row of a column's window, the row counted modulo 2^32.
-fn block_of(column: Column, row: WindowRow) -> usize
-    ensures { result ≡ column_row column row.0 % 2 ^ 32 / 512 }
-{
-    let at = read_row::reader::column_row(column.window.first, row);
-    blockwise_rows::reader::split(at).block
+    table.get(k).copied().unwrap_or_default()
 }
 
 // The value of a row of an opened column's window, with its table and its bytes.
-pub fn row(column: Column, table: &[Block], bytes: &[u8], row: WindowRow) -> RowRead
+pub fn row(column: Column, table: &[Block], bytes: &[u8], row: WindowRow) -> Result<u64, Refusal>
     ensures { RowAs column table.now bytes.now row.0 result }
 {
     let blocks = table.len();
-    let k = block_of(column, row);
+    let k = read_row::reader::block_of(column, row);
     let block = block_at(table, k);
     read_row::reader::row_in(column, blocks, block, bytes, row)
 }
@@ -65,7 +38,7 @@ pub fn lookup(
     first: u32,
     end: u32,
     found: &mut [u32],
-) -> Stored
+) -> Result<usize, Refusal>
     ensures { LooksAs column table.now bytes.now low high first end result found.old found.new }
 {
     let blocks = table.len();
@@ -80,7 +53,13 @@ pub fn lookup(
 }
 
 // The values of the window's rows from `first` on, as many as the lent list has entries, into that list.
-pub fn run(column: Column, table: &[Block], bytes: &[u8], first: u32, out: &mut [u64]) -> Stored
+pub fn run(
+    column: Column,
+    table: &[Block],
+    bytes: &[u8],
+    first: u32,
+    out: &mut [u64],
+) -> Result<usize, Refusal>
     ensures { RunsAs column table.now bytes.now first result out.old out.new }
 {
     let blocks = table.len();
@@ -112,7 +91,11 @@ fn fill(bytes: &[u8], rows: u32, table: &mut [Block])
 
 // Opens a column under an acceptance sheet, says how its numbers are spelled, and puts the blocks of a Blockwise one into the lent table, a
 // record a block. A refusal leaves the table as it was; so does a column without blocks.
-pub fn open_under(sheet: u32, bytes: &[u8], table: &mut [Block]) -> Opened
+pub fn open_under(
+    sheet: u32,
+    bytes: &[u8],
+    table: &mut [Block],
+) -> Result<(Column, Option<usize>), Refusal>
     ensures { OpensUnderAs sheet bytes.now result table.old table.new }
 {
     let room = table.len();
@@ -123,7 +106,7 @@ pub fn open_under(sheet: u32, bytes: &[u8], table: &mut [Block]) -> Opened
 }
 
 // Opens a column under sheet 1.
-pub fn open(bytes: &[u8], table: &mut [Block]) -> Opened
+pub fn open(bytes: &[u8], table: &mut [Block]) -> Result<(Column, Option<usize>), Refusal>
     ensures { OpensAs bytes.now result table.old table.new }
 {
     open_under(1, bytes, table)

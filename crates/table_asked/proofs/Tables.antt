@@ -2,13 +2,14 @@
 --     through             a lent table that was filled answers the column's rows as the opening's own blocks do
 --     numbers-checked     a list of numbers
 -- Assumes nothing.
+use Rattle.format.specs.declared.Mismatch.{Mismatch}
+use Rattle.std.specs.Prelude.{Result}
 use Prim.Native.Nat.{ℕ, ◌<◌}
 use mathlib.Core.Path.{◌≡◌, ap, ◌∙◌, subst}
 use mathlib.Core.List.{List}
 use native.Mathlib.Omega.{arith}
 use lib.ListN.{length}
 use Rattle.format.specs.declared.Block.{Block}
-use Rattle.format.specs.declared.Checked.{Checked}
 use Rattle.format.specs.declared.Kind.TheVariants.{U64}
 use Rattle.format.specs.Demands.{filled_by}
 use Rattle.format.specs.Opening.{Loaded, opened}
@@ -31,5 +32,5 @@ through o s table after found filled r h =
     ∙ filled_row o table s r laid.table (laid.rows.present (column_row o.column r) inside)
 
 -- numbers are stored as they are
-pub numbers-checked : {o : Outcome Loaded} {s vs : List ℕ} {r : Checked} {table after : List Block} → CheckedAs o s (stored_as U64 vs) r table after → CheckedAs o s vs r table after
+pub numbers-checked : {o : Outcome Loaded} {s vs : List ℕ} {r : Result (Unit {0}) Mismatch} {table after : List Block} → CheckedAs o s (stored_as U64 vs) r table after → CheckedAs o s vs r table after
 numbers-checked {o} {s} {vs} {r} {table} {after} f = subst (λ (l : List ℕ). CheckedAs o s l r table after) (stored-numbers vs) f

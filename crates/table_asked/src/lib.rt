@@ -7,12 +7,17 @@ ghost use Rattle.byte_owner.specs.Search.{searched, Searching};
 ghost use Rattle.table_asked.specs.Calls.{ReplaysAs, DiffersAs, RowsAs};
 ghost use Rattle.table_asked.specs.Checked.{ChecksAs, KindChecksAs};
 
-use byte_owner::{RowsRead, Search};
+use byte_owner::Search;
 use compare_walk::Difference;
-use format::{Block, Checked, Column, Kind, Replayed};
+use format::{Block, Column, Kind, Mismatch, Refusal, Report};
 
 // Runs the recorded lookups one after another, up to the first whose rows are not the recorded ones.
-pub fn replay(column: Column, table: &[Block], bytes: &[u8], recording: &[u8]) -> Replayed
+pub fn replay(
+    column: Column,
+    table: &[Block],
+    bytes: &[u8],
+    recording: &[u8],
+) -> Result<Report, Refusal>
     ensures { ReplaysAs column table.now bytes.now recording.now result }
 {
     let blocks = table.len();
@@ -36,7 +41,7 @@ pub fn difference(
     rtable: &[Block],
     rbytes: &[u8],
     from: u32,
-) -> Difference
+) -> Option<Difference>
     ensures { DiffersAs left ltable.now lbytes.now right rtable.now rbytes.now from result }
 {
     let lblocks = ltable.len();
@@ -76,7 +81,12 @@ fn in_table(column: Column, search: Search, blocks: usize) -> Search
 
 // The rows that own a bit of the byte at an offset, from the first to the last, with the column's table. None does before the packed area, behind it, and where a
 // byte of it has filling bits only.
-pub fn rows_at(column: Column, table: &[Block], bytes: &[u8], offset: usize) -> RowsRead
+pub fn rows_at(
+    column: Column,
+    table: &[Block],
+    bytes: &[u8],
+    offset: usize,
+) -> Result<Option<(u32, u32)>, Refusal>
     ensures { RowsAs column table.now bytes.now offset result }
 {
     let mut search = byte_owner::begin(column, bytes, offset);
@@ -91,7 +101,7 @@ pub fn rows_at(column: Column, table: &[Block], bytes: &[u8], offset: usize) -> 
 }
 
 // Opens a column from any writer under an acceptance sheet and checks it against the list of numbers that it is to hold: it is passed, or the first reason why not.
-pub fn check(sheet: u32, bytes: &[u8], values: &[u64], table: &mut [Block]) -> Checked
+pub fn check(sheet: u32, bytes: &[u8], values: &[u64], table: &mut [Block]) -> Result<(), Mismatch>
     ensures { ChecksAs sheet bytes.now values.now result table.old table.new }
 {
     check_as(Kind::U64, sheet, bytes, values, table)
@@ -104,7 +114,7 @@ pub fn check_as(
     bytes: &[u8],
     values: &[u64],
     table: &mut [Block],
-) -> Checked
+) -> Result<(), Mismatch>
     ensures { KindChecksAs kind sheet bytes.now values.now result table.old table.new }
 {
     let opened = table::open_under(sheet, bytes, table);

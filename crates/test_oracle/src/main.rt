@@ -4,7 +4,7 @@
 
 ghost use Rattle.std.specs.Prelude.{◌≡◌, ◌≤◌, ◌<◌, length};
 
-use format::{Checked, Kind, Stored};
+use format::Kind;
 use text::lines::named_line;
 use tool_files::cases::length_at;
 
@@ -31,45 +31,24 @@ fn take(words: &[u8], values: &mut [u64; VALUES]) -> usize
     requires { length values.old ≡ 1056 }
     ensures { (result ≤ 1056) × (length values.new ≡ 1056) }
 {
-    let n = words.len() / 8;
-    let mut i = 0;
-    while i < VALUES {
-        if n <= i {
-            break;
-        }
+    let n = (words.len() / 8).min(VALUES);
+    for i in 0..n {
         values[i] = bitpacker::get(words, 64, i as u32);
-        i += 1;
     }
-    i
-}
-
-// Whether an output begins with a column.
-fn begins_with(out: &[u8; BYTES], column: &[u8]) -> bool {
-    let n = column.len();
-    let mut i = 0;
-    while i < BYTES {
-        if n <= i {
-            return true;
-        }
-        if out[i] != column[i] {
-            return false;
-        }
-        i += 1;
-    }
-    n <= BYTES
+    n
 }
 
 // Writes a list, and says whether the column is just what is written, or the refusal.
 fn show_written(rt: &impl Print, kind: Kind, values: &[u64], codecs: &[u8], column: &[u8]) {
     let mut out = [0u8; BYTES];
     match u64_based::serialize_as(kind, values, codecs, &mut out) {
-        Stored::Refused(why) => {
+        Err(why) => {
             let mut line = [0u8; 128];
             let n = named_line(b"refused ", why.number() as u64, &mut line);
             tool_files::write_all(rt, &line[..n]);
         }
-        Stored::Entries(n) => {
-            if n == column.len() && begins_with(&out, column) {
+        Ok(n) => {
+            if n == column.len() && out.starts_with(column) {
                 tool_files::write_all(rt, b"written as stored\n");
             } else {
                 tool_files::write_all(rt, b"written otherwise\n");
@@ -81,13 +60,10 @@ fn show_written(rt: &impl Print, kind: Kind, values: &[u64], codecs: &[u8], colu
 // Says whether a column is passed for a list.
 fn show_checked(rt: &impl Print, kind: Kind, values: &[u64], column: &[u8]) {
     let opened = open_column::open_plain_under(2, column, BLOCKS);
-    match check_verdict::verdict_on(kind, opened, column, values) {
-        Checked::Passed => {
-            tool_files::write_all(rt, b"yes\n");
-        }
-        _ => {
-            tool_files::write_all(rt, b"no\n");
-        }
+    if check_verdict::verdict_on(kind, opened, column, values).is_ok() {
+        tool_files::write_all(rt, b"yes\n");
+    } else {
+        tool_files::write_all(rt, b"no\n");
     }
 }
 

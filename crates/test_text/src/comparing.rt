@@ -4,8 +4,8 @@ ghost use Rattle.text_compare.specs.Way.{hand_max};
 ghost use Rattle.text_column.specs.Own.{Owned};
 
 use format::{Window, WindowRow};
-use text_column::own::{Narrowed, Own};
-use text_compare::{Begun, way};
+use text_column::own::Own;
+use text_compare::way;
 use tool_files::cases::length_at;
 
 // The windows of the two sides.
@@ -30,8 +30,8 @@ fn narrowed(own: Own, window: Window) -> Own
     ensures { (s : List ℕ) → Owned s own.column own.pass → Owned s result.column result.pass }
 {
     match text_column::own::narrow(own, WindowRow(window.first), window.rows) {
-        Narrowed::Own(narrow) => narrow,
-        Narrowed::Refused(_, whole) => whole,
+        Ok(narrow) => narrow,
+        Err((_, whole)) => whole,
     }
 }
 
@@ -58,10 +58,10 @@ fn show(rt: &impl Print, title: &[u8], left: &[u8], right: &[u8], windows: Windo
     tool_files::write_all(rt, title);
     let mut line = [0u8; 128];
     match text_compare::begin(left, right, &mut line) {
-        Begun::Refused(n) => {
+        Err(n) => {
             tool_files::write_all(rt, &line[..n]);
         }
-        Begun::Columns(own, its) => {
+        Ok((own, its)) => {
             let a = narrowed(own, windows.left);
             let b = narrowed(its, windows.right);
             let mut out = io::buffer();

@@ -5,16 +5,16 @@
 ghost use Rattle.std.specs.Prelude.{◌<◌, ◌≤◌, length};
 ghost use Rattle.test_view.specs.Asked.{AskedAs};
 
-use format::{Column, Opened, RowRead};
-use text::lines::{named_line, pair_line, refused_line};
+use format::{Column, Refusal};
+use text::lines::{named_line, pair_line};
 use tool_files::cases::length_at;
 
 // What a view of some bytes answers: its opening, its row count, and a row.
 #[derive(Clone, Copy)]
 struct Asked {
-    answer: Opened,
+    answer: Result<(Column, Option<usize>), Refusal>,
     rows: u32,
-    read: RowRead,
+    read: Result<u64, Refusal>,
 }
 
 // Opens a view, and asks it for its row count and a row. All that the program does with a view stands here.
@@ -32,37 +32,29 @@ fn ask(sheet: u32, bytes: &[u8], row: u32) -> Asked
 }
 
 // Internal: asks for a name of at most forty bytes. Writes a row and what it answers as a line.
-fn show_read(rt: &impl Print, name: &[u8], row: u32, read: RowRead)
+fn show_read(rt: &impl Print, name: &[u8], row: u32, read: Result<u64, Refusal>)
     requires { length name.now ≤ 40 }
 {
     let mut line = [0u8; 128];
-    match read {
-        RowRead::Value(v) => {
-            let n = pair_line(name, row as u64, b" ", v, &mut line);
-            tool_files::write_all(rt, &line[..n]);
-        }
-        RowRead::Refused(why) => {
-            let n = pair_line(
-                name,
-                row as u64,
-                b" refused ",
-                why.number() as u64,
-                &mut line,
-            );
-            tool_files::write_all(rt, &line[..n]);
-        }
-    }
+    let n = match read {
+        Ok(v) => pair_line(name, row as u64, b" ", v, &mut line),
+        Err(refusal) => pair_line(
+            name,
+            row as u64,
+            b" refused ",
+            refusal.number() as u64,
+            &mut line,
+        ),
+    };
+    tool_files::write_all(rt, &line[..n]);
 }
 
 // Writes the number of a refused opening as a line, and of a column nothing.
-fn show_refused(rt: &impl Print, answer: Opened) {
+fn show_refused(rt: &impl Print, answer: Result<(Column, Option<usize>), Refusal>) {
     let mut line = [0u8; 128];
-    match answer {
-        Opened::Column(_, _) => {}
-        Opened::Refused(_) => {
-            let n = refused_line(b"refused ", answer, &mut line);
-            tool_files::write_all(rt, &line[..n]);
-        }
+    if let Err(refusal) = answer {
+        let n = named_line(b"refused ", refusal.number() as u64, &mut line);
+        tool_files::write_all(rt, &line[..n]);
     }
 }
 
@@ -76,18 +68,14 @@ fn show_count(rt: &impl Print, rows: u32) {
 // Writes what a view answers of a row.
 fn show_row(rt: &impl Print, sheet: u32, bytes: &[u8], row: u32) {
     let asked = ask(sheet, bytes, row);
-    let read = asked.read;
-    show_read(rt, b"row ", row, read);
+    show_read(rt, b"row ", row, asked.read);
 }
 
 // Of each row, and of the one behind them.
 fn show_rows(rt: &impl Print, sheet: u32, bytes: &[u8], rows: u32) {
-    let mut i = 0;
-    while i < rows {
+    for i in 0..=rows {
         show_row(rt, sheet, bytes, i);
-        i += 1;
     }
-    show_row(rt, sheet, bytes, rows);
 }
 
 // Writes what a column answers of a row without a view.
@@ -98,21 +86,17 @@ fn show_plain_row(rt: &impl Print, column: Column, bytes: &[u8], row: u32) {
 
 // Of each row, and of the one behind them.
 fn show_plain_rows(rt: &impl Print, column: Column, bytes: &[u8]) {
-    let rows = column.window.rows;
-    let mut i = 0;
-    while i < rows {
+    for i in 0..=column.window.rows {
         show_plain_row(rt, column, bytes, i);
-        i += 1;
     }
-    show_plain_row(rt, column, bytes, rows);
 }
 
 // The same of what opens without a view, or the refusal.
 fn show_plain(rt: &impl Print, sheet: u32, bytes: &[u8]) {
     let answer = view::open_plain(sheet, bytes);
     match answer {
-        Opened::Column(column, _) => show_plain_rows(rt, column, bytes),
-        Opened::Refused(_) => show_refused(rt, answer),
+        Ok((column, _)) => show_plain_rows(rt, column, bytes),
+        Err(_) => show_refused(rt, answer),
     }
 }
 
@@ -120,8 +104,7 @@ fn show_plain(rt: &impl Print, sheet: u32, bytes: &[u8]) {
 fn show(rt: &impl Print, title: &[u8], sheet: u32, bytes: &[u8]) {
     tool_files::write_all(rt, title);
     let asked = ask(sheet, bytes, 0);
-    let answer = asked.answer;
-    show_refused(rt, answer);
+    show_refused(rt, asked.answer);
     show_count(rt, asked.rows);
     show_rows(rt, sheet, bytes, asked.rows);
     show_plain(rt, sheet, bytes);
@@ -156,6 +139,7 @@ fn show_case(rt: &impl Print, file: &[u8], at: usize) -> usize
 fn show_all(rt: &impl Print, file: &[u8]) {
     let size = file.len();
     let mut at = 0;
+    // No range: each case says where the next one begins.
     while at < size {
         at = show_case(rt, file, at);
     }

@@ -77,8 +77,8 @@ module _ {text : ℕ → List ℕ} {most rows from r at : ℕ} {old new : List �
     pub filling_list : new ≡ sets old 0 (chunk text most rows (length old) from)
     filling_list = sym (f.goal ∙ ap (sets new at) no_text)
 
-    pub filling_answer : ◌≡◌ {A = Filled} (record { rows = r - from; bytes = at }) (filled text most rows (length old) from)
-    filling_answer =
-        let counted = filling_rows in
+    pub filling_answer : {n : ℕ} → from + n ≡ r → ◌≡◌ {A = Filled} (record { rows = n; bytes = at }) (filled text most rows (length old) from)
+    filling_answer {n} ends =
+        let counted : n ≡ chunk_rows text most rows (length old) from = omega (arith, filling_rows) in
         let long = filling_bytes in
         λ i. record { rows = counted i; bytes = long i }

@@ -1,17 +1,17 @@
 -- What the blame's calls promise determines what they answer and what every lent entry holds afterwards: two results that it allows coincide.
 --     begin_determined, fill_lines_determined, end_line_determined
 -- Assumes nothing.
+use Rattle.std.specs.Prelude.{Result}
 use Prim.Native.Nat.{ℕ}
 use mathlib.Core.Path.{◌≡◌, sym, ◌∙◌}
 use mathlib.Core.List.{List}
 use Rattle.format.specs.declared.Column.{Column}
-use Rattle.text_blame.specs.declared.Begun.{Begun}
 use Rattle.text_blame.specs.declared.Looked.{Looked}
 use Rattle.text_blame.specs.Beginning.{Start, BegunAs}
 use Rattle.text_blame.specs.Chunk.{LookedAs, EndedAs}
 
 -- two answers of `begin`, and what the lent line holds afterwards
-pub begin_determined : (start : Start) (line : List ℕ) (a b : Begun) (new new' : List ℕ) → BegunAs start a line new → BegunAs start b line new' → (a ≡ b) × (new ≡ new')
+pub begin_determined : (start : Start) (line : List ℕ) (a b : Result (Column × Column) ℕ) (new new' : List ℕ) → BegunAs start a line new → BegunAs start b line new' → (a ≡ b) × (new ≡ new')
 begin_determined start line a b new new' p q = (p.answer ∙ sym q.answer, p.line ∙ sym q.line)
 
 -- two answers of `fill_lines`, and what the lent buffer holds afterwards

@@ -4,11 +4,11 @@
 --     same_fields                   so the two columns have the same fields
 --     Listed, listed_blames         and every row of theirs answers as the theorem says, with any tables that have a program's room
 -- Assumes nothing.
+use Rattle.std.specs.Prelude.{Option, Some, None}
 use Prim.Native.Nat.{ℕ, ◌-◌, zero, suc, ◌+◌, ◌≤◌, ◌<◌}
 use mathlib.Core.Path.{◌≡◌, refl, sym, ap, ◌∙◌, subst}
 use mathlib.Core.Bool.{Bool, true, false}
 use mathlib.Core.Logic.{◌⊎◌, inl, inr, ⊎_elim}
-use mathlib.Core.Option.{some}
 use mathlib.Core.List.{List, [], ◌∷◌, ◌++◌}
 use native.Mathlib.Nat.{eq-or-lt_of_le}
 use native.Mathlib.Omega.{arith}
@@ -35,30 +35,28 @@ use Rattle.format.proofs.Blame.{blame_alike}
 use Rattle.format.proofs.Elsewhere.{FieldsAlike}
 use Rattle.byte_part.specs.Bytes.{part_of}
 use Rattle.text_column.proofs.Limits.{here_opened}
-use Rattle.text_blame_bytes.specs.declared.fields.Field.{Field}
-use Rattle.text_blame_bytes.specs.declared.fields.Field.TheVariants.{At, Nothing}
 use Rattle.text_blame_bytes.specs.Fields.{is_field, field_or, first_field}
 use Rattle.text_blame_lines.specs.Bytes.{lengths_line}
 use Rattle.text_blame.specs.Beginning.{Start.both, Start.only, starts_with, starts}
 
 -- ---- where no field is told
 
-later_none : (o : Outcome Part) (i : ℕ) (later : Field) → field_or o i later ≡ Nothing → later ≡ Nothing
+later_none : (o : Outcome Part) (i : ℕ) (later : Option (ℕ × PartName)) → field_or o i later ≡ None → later ≡ None
 later_none (refusal number also) i later e = e
 later_none (value p) i later e = by (is_field (shape_of p.name)) e
   where
-    by : (b : Bool) → pick b (At i p.name) later ≡ Nothing → later ≡ Nothing
+    by : (b : Bool) → pick b (Some (i, p.name)) later ≡ None → later ≡ None
     by true e = let z : ◌≡◌ {A = ℕ} 0 1 = cc in absurd (omega arith)
     by false e = e
 
-told_field : (o : Outcome Part) (i : ℕ) (later : Field) (p : Part) → o ≡ value p → is_field (shape_of p.name) ≡ true → field_or o i later ≡ Nothing → ⊥
+told_field : (o : Outcome Part) (i : ℕ) (later : Option (ℕ × PartName)) (p : Part) → o ≡ value p → is_field (shape_of p.name) ≡ true → field_or o i later ≡ None → ⊥
 told_field o i later p is field e =
-    let f : At i p.name ≡ Nothing = sym (rw (is, field)) ∙ e in
+    let f : ◌≡◌ {A = Option (ℕ × PartName)} (Some (i, p.name)) None = sym (rw (is, field)) ∙ e in
     let z : ◌≡◌ {A = ℕ} 0 1 = cc in
     omega arith
 
 module _ (part : ℕ → Outcome Part) (s t : List ℕ) where
-  pub no_field : (i n : ℕ) → first_field part s t i n ≡ Nothing → (j : ℕ) → i ≤ j → j < i + n → (p : Part) → part j ≡ value p → is_field (shape_of p.name) ≡ true → get_or s j 0 ≡ get_or t j 0
+  pub no_field : (i n : ℕ) → first_field part s t i n ≡ None → (j : ℕ) → i ≤ j → j < i + n → (p : Part) → part j ≡ value p → is_field (shape_of p.name) ≡ true → get_or s j 0 ≡ get_or t j 0
   unfolding first_field
   no_field i zero e j low high p is field = absurd (omega arith)
   no_field i (suc n) e j low high p is field =
@@ -67,11 +65,11 @@ module _ (part : ℕ → Outcome Part) (s t : List ℕ) where
       (λ (less : i < j). no_field (suc i) n (rest (eqb (get_or s i 0) (get_or t i 0)) e) j less (omega arith) p is field)
       (eq-or-lt_of_le low)
     where
-      rest : (b : Bool) → pick b (first_field part s t (suc i) n) (field_or (part i) i (first_field part s t (suc i) n)) ≡ Nothing → first_field part s t (suc i) n ≡ Nothing
+      rest : (b : Bool) → pick b (first_field part s t (suc i) n) (field_or (part i) i (first_field part s t (suc i) n)) ≡ None → first_field part s t (suc i) n ≡ None
       rest true e = e
       rest false e = later_none (part i) i (first_field part s t (suc i) n) e
 
-      first : (b : Bool) → eqb (get_or s i 0) (get_or t i 0) ≡ b → pick b (first_field part s t (suc i) n) (field_or (part i) i (first_field part s t (suc i) n)) ≡ Nothing → i ≡ j
+      first : (b : Bool) → eqb (get_or s i 0) (get_or t i 0) ≡ b → pick b (first_field part s t (suc i) n) (field_or (part i) i (first_field part s t (suc i) n)) ≡ None → i ≡ j
           → get_or s j 0 ≡ get_or t j 0
       first true test e here = subst (λ (k : ℕ). get_or s k 0 ≡ get_or t k 0) here (eqb-true (get_or s i 0) (get_or t i 0) test)
       first false test e here = absurd (told_field (part i) i (first_field part s t (suc i) n) p (ap part here ∙ is) field e)
@@ -101,7 +99,7 @@ blocks_all k (suc n) = (refl, (refl, (refl, blocks_all (suc k) n)))
 module _ (s : List ℕ) (col : Column) where
   -- a byte that parts of some names hold is one of theirs
   found-named : (Q : PartName → Type 0) (at : ℕ) (ns ms : List PartName) (i : ℕ) → All Q ns → at ≤ i → i < end_from s col at ns
-      → (p : Part) × (part_in (parts_from s col at (ns ++ ms)) i ≡ some p) × Q p.name
+      → (p : Part) × (part_in (parts_from s col at (ns ++ ms)) i ≡ Some p) × Q p.name
   unfolding parts_from part_in end_from
   found-named Q at [] ms i all low high = absurd (omega arith)
   found-named Q at (n ∷ ns) ms i all low high =
@@ -115,7 +113,7 @@ module _ (s : List ℕ) (col : Column) where
     abbrev footer : List PartName
     footer = names_footer col.codec col.rows
 
-    pub before_part : (i : ℕ) → i < col.start → (p : Part) × (part_at s col i ≡ some p) × IsField p.name
+    pub before_part : (i : ℕ) → i < col.start → (p : Part) × (part_at s col i ≡ Some p) × IsField p.name
     before_part i h = found-named IsField 0 (names_before col.codec) (Area ∷ Behind ∷ footer) i (before_all col.codec) (omega arith) (omega (arith, m.before))
 
     area_behind_lem : end_from s col col.start (Area ∷ Behind ∷ []) ≡ behind_end col.codec s
@@ -138,7 +136,7 @@ module _ (s : List ℕ) (col : Column) where
     fields_end = end_from s col (behind_end col.codec s) blocks
 
     -- what is left over ends before the footer's length, and that with the last byte
-    last_four : (at i : ℕ) → at ≤ i → length s - 4 ≤ i → i < length s → (p : Part) × (part_in (parts_from s col at (Spare ∷ FooterLength ∷ [])) i ≡ some p) × IsField p.name
+    last_four : (at i : ℕ) → at ≤ i → length s - 4 ≤ i → i < length s → (p : Part) × (part_in (parts_from s col at (Spare ∷ FooterLength ∷ [])) i ≡ Some p) × IsField p.name
     unfolding end_from extent
     last_four at i low late high =
         let past = end_from s col at (Spare ∷ []) in
@@ -146,34 +144,34 @@ module _ (s : List ℕ) (col : Column) where
         (q.0, part_skip s col at (Spare ∷ []) (FooterLength ∷ []) i (omega arith) ∙ q.1, q.2)
 
     pub footer_part : (i : ℕ) → behind_end col.codec s ≤ i → i < length s → (i < fields_end) ⊎ (length s - 4 ≤ i)
-        → (p : Part) × (part_at s col i ≡ some p) × IsField p.name
+        → (p : Part) × (part_at s col i ≡ Some p) × IsField p.name
     footer_part i low high where-is = go col.codec refl
       where
-        go : (c : Codec) → col.codec ≡ c → (p : Part) × (part_at s col i ≡ some p) × IsField p.name
+        go : (c : Codec) → col.codec ≡ c → (p : Part) × (part_at s col i ≡ Some p) × IsField p.name
         go Bitpacked e = absurd (omega (arith, rw e at low))
         go (Linear l w) e = absurd (omega (arith, rw e at low))
         go Blockwise e =
             let at = behind_end col.codec s in
             let here : part_at s col i ≡ part_in (parts_from s col at (blocks ++ (Spare ∷ FooterLength ∷ []))) i =
             from_footer i low ∙ ap (λ (c : Codec). part_in (parts_from s col at (names_footer c col.rows)) i) e in
-            let behind : fields_end ≤ i → length s - 4 ≤ i → (p : Part) × (part_at s col i ≡ some p) × IsField p.name =
+            let behind : fields_end ≤ i → length s - 4 ≤ i → (p : Part) × (part_at s col i ≡ Some p) × IsField p.name =
             λ (past : fields_end ≤ i) (late : length s - 4 ≤ i).
             let q = last_four fields_end i past late high in
             (q.0, here ∙ part_skip s col at blocks (Spare ∷ FooterLength ∷ []) i past ∙ q.1, q.2) in
-            let within : i < fields_end → (p : Part) × (part_at s col i ≡ some p) × IsField p.name =
+            let within : i < fields_end → (p : Part) × (part_at s col i ≡ Some p) × IsField p.name =
             λ (inside : i < fields_end).
             let q = found-named IsField at blocks (Spare ∷ FooterLength ∷ []) i (blocks_all 0 (block_count col.rows)) low inside in
             (q.0, here ∙ q.1, q.2) in
             ⊎_elim within (λ (late : length s - 4 ≤ i). ⊎_elim within (λ (past : fields_end ≤ i). behind past late) (below_or i fields_end)) where-is
 
     -- what is found for a byte is what is told
-    told : (i : ℕ) (p : Part) → i < length s → part_at s col i ≡ some p → part_of s col i ≡ value p
+    told : (i : ℕ) (p : Part) → i < length s → part_at s col i ≡ Some p → part_of s col i ≡ value p
     unfolding part_of
     told i p h is = rw (le-leb (col.start + col.size) (length s) (omega (arith, m.area, m.behind)), lt-ltb i (length s) h, is)
 
 -- ---- the same fields
 
-pub same_fields : (s t : List ℕ) (room : ℕ) (o : Loaded) → opened s room ≡ value o → length s ≡ length t → first_field (part_of s o.column) s t 0 (length s) ≡ Nothing → FieldsAlike s t o
+pub same_fields : (s t : List ℕ) (room : ℕ) (o : Loaded) → opened s room ≡ value o → length s ≡ length t → first_field (part_of s o.column) s t 0 (length s) ≡ None → FieldsAlike s t o
 same_fields s t room o e long none = record {
   long = long;
   before = λ i h. let q = before_part s o.column m i h in by_field i q.0 (omega (arith, m.area, m.behind)) q.1 q.2;
@@ -184,7 +182,7 @@ same_fields s t room o e long none = record {
     m : Marks s o.column
     m = opened_marks s room o e
 
-    by_field : (i : ℕ) (p : Part) → i < length s → part_at s o.column i ≡ some p → IsField p.name → get_or s i 0 ≡ get_or t i 0
+    by_field : (i : ℕ) (p : Part) → i < length s → part_at s o.column i ≡ Some p → IsField p.name → get_or s i 0 ≡ get_or t i 0
     by_field i p h is field = no_field (part_of s o.column) s t 0 (length s) none i (omega arith) (omega arith) p (told s o.column m i p h is) field
 
     in_footer : (i : ℕ) → behind_end o.column.codec s ≤ i → (i < fields_end s o.column m) ⊎ (length s - 4 ≤ i) → get_or s i 0 ≡ get_or t i 0
@@ -205,9 +203,9 @@ pub record Listed (s t : List ℕ) (c d : Column) (table other : List Block) : T
   pub fields : FieldsAlike s t left
   pub blames : Blames s t table other left right
 
-both_test : (u w c d : Column) (b : Bool) (field : Field) (l : List ℕ) → pick b (starts_with u w field) (only l) ≡ both c d → (b ≡ true) × (field ≡ Nothing) × (u ≡ c) × (w ≡ d)
-both_test u w c d true Nothing l e = (refl, refl, (cc), (cc))
-both_test u w c d true (At i name) l e = absurd (let z : ◌≡◌ {A = ℕ} 0 1 = cc in omega arith)
+both_test : (u w c d : Column) (b : Bool) (field : Option (ℕ × PartName)) (l : List ℕ) → pick b (starts_with u w field) (only l) ≡ both c d → (b ≡ true) × (field ≡ None) × (u ≡ c) × (w ≡ d)
+both_test u w c d true None l e = (refl, refl, (cc), (cc))
+both_test u w c d true (Some (i, name)) l e = absurd (let z : ◌≡◌ {A = ℕ} 0 1 = cc in omega arith)
 both_test u w c d false field l e = absurd (let z : ◌≡◌ {A = ℕ} 0 1 = cc in omega arith)
 
 pub listed_blames : (s t : List ℕ) (c d : Column) → starts (opened_here s) (opened_here t) s t ≡ both c d

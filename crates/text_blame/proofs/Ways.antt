@@ -7,6 +7,8 @@
 --     left, handed_less                           how many chunks a way has at most; a chunk makes it shorter
 --     blame_handed                                all chunks together are the blame
 -- Assumes nothing.
+use Rattle.format.specs.declared.Column.{Column}
+use Rattle.std.specs.Prelude.{Result}
 use Prim.Native.Nat.{ℕ, ◌+◌, ◌-◌, ◌≤◌, ◌<◌}
 use mathlib.Core.Path.{◌≡◌, refl, sym, ap, ◌∙◌}
 use mathlib.Core.Bool.{Bool, true}
@@ -25,7 +27,6 @@ use Rattle.text.specs.Chunk.{chunk_rows, chunk}
 use Rattle.text.specs.Way.{HandedAs, handed_all}
 use Rattle.text.proofs.Chunks.{texts_split, chunk_most, chunk_some}
 use Rattle.text.proofs.Ways.{line_copied, line_fits, Onward, handed_by, handed_on, all_handed}
-use Rattle.text_blame.specs.declared.Begun.{Begun}
 use Rattle.text_blame.specs.declared.Looked.{Looked}
 use Rattle.text_blame.specs.declared.way.At.{At}
 use Rattle.text_blame.specs.declared.way.Way.{Way}
@@ -78,7 +79,7 @@ only_long : (b : Start) → line_length (begun b) ≡ length (line_in b)
 only_long (both c d) = refl
 only_long (only l) = refl
 
-pub begun_wrote : {b : Start} {line₀ line : List ℕ} {r : Begun} → BegunAs b r line₀ line → Wrote line₀ 0 (line_in b) line (line_length r)
+pub begun_wrote : {b : Start} {line₀ line : List ℕ} {r : Result (Column × Column) ℕ} → BegunAs b r line₀ line → Wrote line₀ 0 (line_in b) line (line_length r)
 begun_wrote {b} f = record { ends = ap line_length f.answer ∙ only_long b ∙ sym (zero-add _); list = f.line }
 
 -- a line has room where a longest text has
@@ -86,7 +87,7 @@ pub line_has_room : {line₀ l line : List ℕ} {n room : ℕ} → Wrote line₀
 line_has_room {line₀} {l} {line} {n} {room} wrote space shown free = line_fits {room = room} wrote space shown (omega arith)
 
 module _ {s t line₀ line old new : List ℕ} {end : ℕ} (space : length line₀ ≡ 128) (free : hand_max ≤ length old) where
-  pub handed_first : {r : Begun} {w : Way} → BegunAs (starts (opened_here s) (opened_here t) s t) r line₀ line → Wrote old 0 (take (line_length r) line) new end → w ≡ way_of r
+  pub handed_first : {r : Result (Column × Column) ℕ} {w : Way} → BegunAs (starts (opened_here s) (opened_here t) s t) r line₀ line → Wrote old 0 (take (line_length r) line) new end → w ≡ way_of r
       → HandedAs (blame_walk s t) Open end w old new
   handed_first {r} {w} f copied is =
       let first = begun_wrote f in

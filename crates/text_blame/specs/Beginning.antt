@@ -1,6 +1,7 @@
 -- How a blame begins, with two opened columns or with the only line; and what a program writes of two files.
 -- Assumes nothing.
-use Rattle.std.specs.Prelude.{ℕ, ◌≡◌, List, [], ◌++◌, eqb, length}
+use Rattle.format.specs.declared.PartName.{PartName}
+use Rattle.std.specs.Prelude.{ℕ, ◌≡◌, List, [], ◌++◌, eqb, length, Option, Some, None, Result, Ok, Err}
 use Rattle.std.proofs.lemmas.List.Edits.{sets}
 use Rattle.io.specs.Counts.{IsPrefixLen}
 use Rattle.format.specs.declared.Column.{Column}
@@ -8,10 +9,6 @@ use Rattle.format.specs.Listing.{ascii, named_line, row_texts, opened_here}
 use Rattle.format.specs.Opening.{Loaded}
 use Rattle.format.specs.Outcome.{Outcome, Outcome.value, Outcome.refusal, pick}
 use Rattle.byte_part.specs.Bytes.{part_of}
-use Rattle.text_blame.specs.declared.Begun.{Begun}
-use Rattle.text_blame.specs.declared.Begun.TheVariants.{Columns, Line}
-use Rattle.text_blame_bytes.specs.declared.fields.Field.{Field}
-use Rattle.text_blame_bytes.specs.declared.fields.Field.TheVariants.{At, Nothing}
 use Rattle.text_blame_bytes.specs.Fields.{first_field}
 use Rattle.text_blame_bytes.specs.Owners.{owners_found}
 use Rattle.text_blame_bytes.specs.Tallies.{tallied}
@@ -23,9 +20,9 @@ pub data Start : Type 0 where
   only : List ℕ → Start
 
 -- with two columns, unless a field differs
-abbrev pub starts_with : Column → Column → Field → Start
-starts_with c d (At i name) = only (field_line i name)
-starts_with c d Nothing = both c d
+abbrev pub starts_with : Column → Column → Option (ℕ × PartName) → Start
+starts_with c d (Some (i, name)) = only (field_line i name)
+starts_with c d None = both c d
 
 -- from what opening found of each side: a refusal, the left one first, unequal lengths, a field that differs
 abbrev pub starts : (left right : Outcome Loaded) (s t : List ℕ) → Start
@@ -37,9 +34,9 @@ starts (value o) (value p) s t =
 -- ---- what a call answers
 
 -- the answer
-abbrev pub begun : Start → Begun
-begun (both c d) = Columns c d
-begun (only l) = Line (length l)
+abbrev pub begun : Start → Result (Column × Column) ℕ
+begun (both c d) = Ok (c, d)
+begun (only l) = Err (length l)
 
 -- the line
 abbrev pub line_in : Start → List ℕ
@@ -47,12 +44,12 @@ line_in (both c d) = []
 line_in (only l) = l
 
 -- its length in the answer
-abbrev pub line_length : Begun → ℕ
-line_length (Columns c d) = 0
-line_length (Line n) = n
+abbrev pub line_length : Result (Column × Column) ℕ → ℕ
+line_length (Ok (c, d)) = 0
+line_length (Err n) = n
 
 -- the answer, and the line before and after, whose first bytes the answer counts
-pub record BegunAs (b : Start) (r : Begun) (old new : List ℕ) : Type 0 where
+pub record BegunAs (b : Start) (r : Result (Column × Column) ℕ) (old new : List ℕ) : Type 0 where
   pub answer : r ≡ begun b
   pub line : new ≡ sets old 0 (line_in b)
   pub counts : IsPrefixLen (line_length r) new

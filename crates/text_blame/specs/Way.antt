@@ -1,14 +1,13 @@
 -- The way through a blame, from chunk to chunk (text/specs/Way): what is still to be written, what is handed out next, and the way
 -- behind it.
 -- Assumes nothing.
-use Rattle.std.specs.Prelude.{ℕ, ◌+◌, ◌-◌, Bool, true, false, List, [], ◌++◌, ltb, length}
+use Rattle.format.specs.declared.Column.{Column}
+use Rattle.std.specs.Prelude.{ℕ, ◌+◌, ◌-◌, Bool, true, false, List, [], ◌++◌, ltb, length, Result, Ok, Err}
 use Rattle.format.specs.Listing.{row_texts, opened_here}
 use Rattle.format.specs.Outcome.{pick}
 use Rattle.text.specs.Chunk.{chunk_rows, chunk}
 use Rattle.text.specs.Way.{Walk}
 use Rattle.text_column.specs.Own.{Opens}
-use Rattle.text_blame.specs.declared.Begun.{Begun}
-use Rattle.text_blame.specs.declared.Begun.TheVariants.{Columns, Line}
 use Rattle.text_blame.specs.declared.way.At.{At}
 use Rattle.text_blame.specs.declared.way.Way.{Way}
 use Rattle.text_blame.specs.declared.way.Way.TheVariants.{Open, Bytes, Done}
@@ -64,9 +63,9 @@ piece s t (Bytes a) room = pick (ltb a.from (length s)) (chunk (text_of a s t) b
 piece s t Done room = []
 
 -- the way behind the beginning
-abbrev pub way_of : Begun → Way
-way_of (Columns c d) = Bytes (record { left = c; right = d; from = 0 })
-way_of (Line n) = Done
+abbrev pub way_of : Result (Column × Column) ℕ → Way
+way_of (Ok (c, d)) = Bytes (record { left = c; right = d; from = 0 })
+way_of (Err n) = Done
 
 -- the way behind a chunk
 abbrev pub behind : (s t : List ℕ) → Way → (room : ℕ) → Way

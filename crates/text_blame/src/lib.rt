@@ -11,22 +11,14 @@ ghost use Rattle.text_column.specs.Own.{Opens};
 ghost use Rattle.text_blame.specs.Beginning.{starts, BegunAs};
 ghost use Rattle.text_blame.specs.Chunk.{LookedAs, EndedAs};
 
-use format::{Column, Opened};
-use text::lines::refused_line;
-use text_blame_bytes::fields::Field;
+use format::Column;
+use text::lines::named_line;
 use text_blame_bytes::{counting, fields};
 use text_blame_lines::{lines, rows};
 use text_column::opening;
 
 // The longest text of a byte.
 const BLAME_MAX: usize = 512;
-
-// How a blame begins: with both columns, left and right, or with the only line, by its length.
-#[derive(Clone, Copy)]
-pub enum Begun {
-    Columns(Column, Column),
-    Line(usize),
-}
 
 // What a chunk took: how many offsets were looked at, and how many bytes their text is.
 #[derive(Clone, Copy)]
@@ -43,41 +35,46 @@ fn begin_both(
     against: Column,
     right: &[u8],
     line: &mut [u8; 128],
-) -> Begun
+) -> Result<(Column, Column), usize>
     requires { Opens left.now column × Opens right.now against }
     ensures { BegunAs (starts (opened_here left.now) (opened_here right.now) left.now right.now) result line.old line.new }
 {
     if left.len() != right.len() {
-        return Begun::Line(lines::lengths_line(left.len(), right.len(), line));
+        return Err(lines::lengths_line(left.len(), right.len(), line));
     }
-    if let Field::At(offset, name) = fields::first_field(column, left, right) {
-        return Begun::Line(lines::field_line(offset, name, line));
+    if let Some((offset, name)) = fields::first_field(column, left, right) {
+        return Err(lines::field_line(offset, name, line));
     }
-    Begun::Columns(column, against)
+    Ok((column, against))
 }
 
 // Internal: asks for a column that was opened of the left bytes. Begins a blame of it: opens the right side.
-fn begin_right(column: Column, left: &[u8], right: &[u8], line: &mut [u8; 128]) -> Begun
+#[tactic(auto, using(crate::proofs::Beginnings::begun_right, text_column::proofs::Answered::found_column))]
+fn begin_right(
+    column: Column,
+    left: &[u8],
+    right: &[u8],
+    line: &mut [u8; 128],
+) -> Result<(Column, Column), usize>
     requires { Opens left.now column }
     ensures { BegunAs (starts (opened_here left.now) (opened_here right.now) left.now right.now) result line.old line.new }
 {
-    let opened = opening::open_plain(right);
-    let Opened::Column(against, _) = opened else {
-        return Begun::Line(refused_line(b"right refused ", opened, line));
-    };
-    begin_both(column, left, against, right, line)
+    match opening::open_plain(right) {
+        Ok((against, _)) => begin_both(column, left, against, right, line),
+        Err(refusal) => Err(named_line(b"right refused ", refusal.number() as u64, line)),
+    }
 }
 
 // Begins a blame: opens both sides within a program's limits, and looks at their lengths and fields. Where a side is refused, the left one before the right,
 // where the lengths differ or a field does, the line that says so, the only one then, is written at the start of the lent one.
-pub fn begin(left: &[u8], right: &[u8], line: &mut [u8; 128]) -> Begun
+#[tactic(auto, using(crate::proofs::Beginnings::begun_left, text_column::proofs::Answered::found_column))]
+pub fn begin(left: &[u8], right: &[u8], line: &mut [u8; 128]) -> Result<(Column, Column), usize>
     ensures { BegunAs (starts (opened_here left.now) (opened_here right.now) left.now right.now) result line.old line.new }
 {
-    let opened = opening::open_plain(left);
-    let Opened::Column(column, _) = opened else {
-        return Begun::Line(refused_line(b"left refused ", opened, line));
-    };
-    begin_right(column, left, right, line)
+    match opening::open_plain(left) {
+        Ok((column, _)) => begin_right(column, left, right, line),
+        Err(refusal) => Err(named_line(b"left refused ", refusal.number() as u64, line)),
+    }
 }
 
 // Internal: asks for two columns, each opened of its bytes. Writes the text of the offsets from `from` on at the start of a buffer, while a longest text has room. A byte
@@ -95,22 +92,21 @@ pub fn fill_lines(
 {
     let mut l = text_column::own::begin(lbytes, left);
     let mut r = text_column::own::begin(rbytes, right);
-    let mut i = from;
-    let mut at = 0;
-    while i < lbytes.len() {
-        if out.len() - at < BLAME_MAX {
+    let mut looked = Looked {
+        offsets: 0,
+        bytes: 0,
+    };
+    for i in from..lbytes.len() {
+        if out.len() - looked.bytes < BLAME_MAX {
             break;
         }
-        let put = rows::put_offset(out, at, l, lbytes, r, rbytes, i);
-        at = put.end;
+        let put = rows::put_offset(out, looked.bytes, l, lbytes, r, rbytes, i);
         l = put.left;
         r = put.right;
-        i += 1;
+        looked.bytes = put.end;
+        looked.offsets += 1;
     }
-    Looked {
-        offsets: i - from,
-        bytes: at,
-    }
+    looked
 }
 
 // Internal: asks for a column that was opened of the left bytes. Writes the last line, with the count of the bytes that differ and of the rows that they name, at the start of

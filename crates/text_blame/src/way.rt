@@ -5,7 +5,6 @@ ghost use Rattle.text.specs.Way.{HandedAs};
 ghost use Rattle.text_blame.specs.Beginning.{line_length};
 ghost use Rattle.text_blame.specs.Way.{Stands, hand_max, is_more, way_of, blame_walk};
 
-use crate::Begun;
 use format::Column;
 use text::put::put_text;
 
@@ -47,33 +46,32 @@ pub fn more(way: Way) -> bool
     ensures { result ≡ is_more way }
 {
     match way {
-        Way::Open => true,
-        Way::Bytes(_) => true,
+        Way::Open | Way::Bytes(_) => true,
         Way::Done => false,
     }
 }
 
 // The length of the line that a blame begins with; none where it begins with two columns.
-fn line_of(begun: Begun) -> usize
+fn line_of(begun: Result<(Column, Column), usize>) -> usize
     ensures { result ≡ line_length begun }
 {
     match begun {
-        Begun::Columns(_, _) => 0,
-        Begun::Line(n) => n,
+        Ok(_) => 0,
+        Err(n) => n,
     }
 }
 
 // The way behind it: before the first offset, or at the end where the line is the only one.
-fn way_of(begun: Begun) -> Way
+fn way_of(begun: Result<(Column, Column), usize>) -> Way
     ensures { result ≡ way_of begun }
 {
     match begun {
-        Begun::Columns(left, right) => Way::Bytes(At {
+        Ok((left, right)) => Way::Bytes(At {
             left,
             right,
             from: 0,
         }),
-        Begun::Line(_) => Way::Done,
+        Err(_) => Way::Done,
     }
 }
 
@@ -114,25 +112,22 @@ fn hand_bytes(at: At, left: &[u8], right: &[u8], out: &mut [u8]) -> Handed
     requires hand_max_in_bounds { hand_max ≤ length out.old }
     ensures { HandedAs (blame_walk left.now right.now) (Way.Bytes at) result.bytes result.way out.old out.new }
 {
-    let from = at.from;
-    if left.len() <= from {
+    if left.len() <= at.from {
         return hand_last(at, left, right, out);
     }
-    let column = at.left;
-    let against = at.right;
-    let took = crate::fill_lines(column, left, against, right, from, out);
+    let took = crate::fill_lines(at.left, left, at.right, right, at.from, out);
     Handed {
         bytes: took.bytes,
         way: Way::Bytes(At {
-            left: column,
-            right: against,
-            from: from + took.offsets,
+            from: at.from + took.offsets,
+            ..at
         }),
     }
 }
 
 // Internal: asks for a way that `begin` or this call handed out for the same bytes. Writes the next chunk at the start of a buffer;
 // nothing, where that has no room for the longest text. What a way has left is the chunk and then what the way behind it has left.
+#[tactic(auto, using(text::proofs::Ways::handed_nothing, crate::proofs::Ways::handed_done))]
 pub fn fill(way: Way, left: &[u8], right: &[u8], out: &mut [u8]) -> Handed
     requires { Stands left.now right.now way }
     ensures { HandedAs (blame_walk left.now right.now) way result.bytes result.way out.old out.new }

@@ -1,6 +1,8 @@
 -- A byte names at most eight rows, whatever the column.
 --     found_few
 -- Assumes nothing.
+use Rattle.std.specs.Option.{option_or}
+use Rattle.std.specs.Prelude.{Option, Some, None}
 use Prim.Native.Nat.{ℕ, zero, suc, ◌+◌, ◌-◌, ◌*◌, ◌/◌, ◌≤◌, ◌<◌, min}
 use mathlib.Core.Path.{◌≡◌, refl}
 use mathlib.Core.Bool.{Bool, true, false, ◌&&◌}
@@ -13,13 +15,11 @@ use Rattle.format.specs.declared.Block.{Block}
 use Rattle.format.specs.declared.Codec.{Codec}
 use Rattle.format.specs.declared.Codec.TheVariants.{Bitpacked, Linear, Blockwise}
 use Rattle.format.specs.declared.Column.{Column}
-use Rattle.format.specs.declared.Owners.{Owners}
-use Rattle.format.specs.declared.Owners.TheVariants.{Rows, NoRow}
 use Rattle.format.specs.Bodies.{block_count}
 use Rattle.format.specs.Listing.{opened_here}
 use Rattle.format.specs.Outcome.{Outcome.value, ◌>>◌, demand, pick}
 use Rattle.format.specs.Packing.{width, legal}
-use Rattle.format.specs.Parts.{Run, run_owners, block_run, or_else, block_owners, area_owners, owners_at}
+use Rattle.format.specs.Parts.{Run, run_owners, block_run, block_owners, area_owners, owners_at}
 use Rattle.format.proofs.Tests.{and_right}
 use Rattle.byte_part.specs.Bytes.{fits_at}
 use Rattle.byte_owner.specs.Bytes.{rows_of}
@@ -41,7 +41,7 @@ unfolding run_owners
 run_few u j = go (legal u.bits && leb u.start j && ltb (8 * (j - u.start)) (u.rows * u.bits)) refl
   where
     go : (t : Bool) → (legal u.bits && leb u.start j && ltb (8 * (j - u.start)) (u.rows * u.bits)) ≡ t
-        → Few (pick t (Rows (u.first + 8 * (j - u.start) / u.bits) (u.first + min ((8 * (j - u.start) + 7) / u.bits) (u.rows - 1))) NoRow)
+        → Few (pick t (Some (u.first + 8 * (j - u.start) / u.bits, u.first + min ((8 * (j - u.start) + 7) / u.bits) (u.rows - 1))) None)
     go false e = tt
     go true e =
         let bit = 8 * (j - u.start) in
@@ -49,9 +49,9 @@ run_few u j = go (legal u.bits && leb u.start j && ltb (8 * (j - u.start)) (u.ro
         let near = seven bit u.bits wide.0 in
         (omega (arith, wide, near), omega (arith, near))
 
-else_few : (a b : Owners) → Few a → Few b → Few (or_else a b)
-else_few (Rows first last) b p q = p
-else_few NoRow b p q = q
+else_few : (a b : Option (ℕ × ℕ)) → Few a → Few b → Few (option_or a b)
+else_few (Some (first, last)) b p q = p
+else_few None b p q = q
 
 blocks_few : (table : List Block) (rows k n j : ℕ) → Few (block_owners table rows k n j)
 unfolding block_owners
@@ -68,7 +68,7 @@ pub found_few : (col : Column) (s : List ℕ) (i : ℕ) → Few (owners_found co
 unfolding rows_of owners_at
 found_few col s i = go (fits_at s col i) (leb col.start i)
   where
-    go : (t u : Bool) → Few (owners_in (demand t 13 [] >> value (pick u (area_owners col.codec col.count col.rows (table_of (opened_here s)) (i - col.start)) NoRow)))
+    go : (t u : Bool) → Few (owners_in (demand t 13 [] >> value (pick u (area_owners col.codec col.count col.rows (table_of (opened_here s)) (i - col.start)) None)))
     go false u = tt
     go true false = tt
     go true true = area_few col.codec col.count col.rows (table_of (opened_here s)) (i - col.start)

@@ -3,6 +3,9 @@
 --                                            the column stays, and a pass over its blocks
 --     passed_over                            a search goes on from the block at hand, if that begins at the byte or before it
 -- Assumes nothing.
+use Rattle.std.specs.Option.{option_or}
+use Rattle.format.specs.Refusals.{answered_by}
+use Rattle.std.specs.Prelude.{Option, None}
 use Prim.Native.Nat.{ℕ, zero, suc, ◌+◌, ◌-◌, ◌*◌, ◌/◌, ◌%◌, ◌≤◌, ◌<◌, min}
 use mathlib.Core.Path.{◌≡◌, refl, sym, ap, ap₂, ◌∙◌, subst}
 use mathlib.Core.List.{List}
@@ -11,19 +14,16 @@ use Rattle.format.specs.declared.Block.{Block}
 use Rattle.format.specs.declared.Codec.{Codec}
 use Rattle.format.specs.declared.Codec.TheVariants.{Bitpacked, Linear, Blockwise}
 use Rattle.format.specs.declared.Column.{Column}
-use Rattle.format.specs.declared.Owners.{Owners}
-use Rattle.format.specs.declared.Owners.TheVariants.{NoRow}
 use Rattle.format.specs.Bodies.{block_count}
 use Rattle.format.specs.Listing.{opened_here}
 use Rattle.format.specs.Reading.{place_in, block_at}
 use Rattle.format.specs.Word.{bytes_for}
-use Rattle.format.specs.Parts.{run_owners, block_run, or_else, block_owners}
+use Rattle.format.specs.Parts.{run_owners, block_run, block_owners}
 use Rattle.format.proofs.Laid.{RowsLaid}
 use Rattle.format.proofs.Owning.{run_none}
 use Rattle.blockwise_linear.specs.declared.passing.Pass.{Pass}
 use Rattle.blockwise_linear.specs.Passing.{passed}
 use Rattle.byte_owner.specs.declared.Search.{Search}
-use Rattle.byte_owner.specs.Bytes.{rows_meaning}
 use Rattle.byte_owner.specs.Search.{or_left, searched, Searching}
 use Rattle.text_column.specs.declared.own.Own.{Own}
 use Rattle.text_column.specs.Own.{table_of, block_rows, own_at, Shows, Owned}
@@ -56,7 +56,7 @@ module _ {s : List ℕ} {own : Own} where
 -- ---- blocks that are passed over
 
 -- blocks that have no rows there
-none_here : (t : List Block) (rows j d n k : ℕ) → ((e : ℕ) → e < k + d → run_owners (block_run t rows e) j ≡ NoRow) → block_owners t rows k (d + n) j ≡ block_owners t rows (k + d) n j
+none_here : (t : List Block) (rows j d n k : ℕ) → ((e : ℕ) → e < k + d → run_owners (block_run t rows e) j ≡ None) → block_owners t rows k (d + n) j ≡ block_owners t rows (k + d) n j
 unfolding block_owners
 none_here t rows j zero n k none =
     let all : zero + n ≡ n = omega arith in
@@ -66,7 +66,7 @@ none_here t rows j (suc d) n k none =
     let more : suc d + n ≡ suc (d + n) = omega arith in
     let on : suc k + d ≡ k + suc d = omega arith in
     ap (λ (m : ℕ). block_owners t rows k m j) more
-    ∙ ap (λ (o : Owners). or_else o (block_owners t rows (suc k) (d + n) j)) (none k (omega arith))
+    ∙ ap (λ (o : Option (ℕ × ℕ)). option_or o (block_owners t rows (suc k) (d + n) j)) (none k (omega arith))
     ∙ none_here t rows j d n (suc k) (λ (e : ℕ) (h : e < suc k + d). none e (omega arith))
     ∙ ap (λ (m : ℕ). block_owners t rows m n j) on
 
@@ -95,7 +95,7 @@ module _ {s : List ℕ} {c : Column} (e : Shows s c) (is : c.codec ≡ Blockwise
       subst (λ (k : Codec). RowsLaid k c.count c.rows c.size table) is
       (by_shown e (λ (c : Column). RowsLaid c.codec c.count c.rows c.size table) (rw e.opened (shows_laid e).rows))
 
-  none_before : (b k j : ℕ) → b < k → 512 * k < c.rows → (block_at table k).start ≤ j → run_owners (block_run table c.rows b) j ≡ NoRow
+  none_before : (b k j : ℕ) → b < k → 512 * k < c.rows → (block_at table k).start ≤ j → run_owners (block_run table c.rows b) j ≡ None
   none_before b k j h inside low =
       let full : 512 ≡ min (c.rows - 512 * b) 512 = omega arith in
       run_none (block_run table c.rows b) j
@@ -127,11 +127,11 @@ module _ {s : List ℕ} {c : Column} {p : Pass} (f : Owned s c p) {w : Search} (
   passed_over =
       let d = p.count - 1 - w.next in
       let t = table_of (opened_here s) in
-      let none : (e : ℕ) → e < w.next + d → run_owners (block_run t c.rows e) w.byte ≡ NoRow =
+      let none : (e : ℕ) → e < w.next + d → run_owners (block_run t c.rows e) w.byte ≡ None =
       λ (e : ℕ) (h : e < w.next + d). none_before f.shows here.0 e (p.count - 1) w.byte (omega arith) here.1 (subst (λ (b : Block). b.start ≤ w.byte) at_hand low) in
       let all : w.left ≡ d + (w.left - d) = omega arith in
       let on : w.next + d ≡ p.count - 1 = omega arith in
       let same : block_owners t c.rows w.next w.left w.byte ≡ block_owners t c.rows (p.count - 1) (w.left - d) w.byte =
       ap (λ (n : ℕ). block_owners t c.rows w.next n w.byte) all ∙ none_here t c.rows w.byte d (w.left - d) w.next none
       ∙ ap (λ (k : ℕ). block_owners t c.rows k (w.left - d) w.byte) on in
-      (record { inside = omega (arith, g.inside); none = λ h. g.none (omega arith) }, ap (or_left (rows_meaning w.answer)) (sym same))
+      (record { inside = omega (arith, g.inside); none = λ h. g.none (omega arith) }, ap (or_left (answered_by w.answer)) (sym same))

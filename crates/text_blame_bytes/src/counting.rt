@@ -6,7 +6,7 @@ ghost use Rattle.text_blame_bytes.specs.Tallies.{with_byte, tally_from, tallied,
 
 use crate::fields::same_at;
 use crate::owners::owners_of;
-use format::{Column, Owners};
+use format::Column;
 use text_column::own::Own;
 
 // Bytes and rows that were counted, and the row behind the last of them: rows are named in ascending order, so those below it were counted.
@@ -28,22 +28,22 @@ struct Counting {
 fn less(a: u64, b: u64) -> u64
     ensures { result ≡ a - b }
 {
-    if a < b { 0 } else { a - b }
+    a.saturating_sub(b)
 }
 
 // Internal: asks that one byte more can be counted, and for rows below the next. One byte more, with the rows that it names.
-fn with_byte(tally: Tally, owners: Owners) -> Tally
+fn with_byte(tally: Tally, owners: Option<(u32, u32)>) -> Tally
     requires { Countable tally }
     ensures value { result ≡ with_byte tally owners }
     ensures counted { Counted tally result }
 {
     match owners {
-        Owners::NoRow => Tally {
+        None => Tally {
             bytes: tally.bytes + 1,
             rows: tally.rows,
             next: tally.next,
         },
-        Owners::Rows { first, last } => {
+        Some((first, last)) => {
             let fresh = word::larger(first as u64, tally.next);
             let behind = last as u64 + 1;
             let more = less(behind, fresh);
@@ -67,12 +67,11 @@ fn count_at(counting: Counting, left: &[u8], right: &[u8], offset: usize) -> Cou
     if same_at(left, right, offset) {
         return counting;
     }
-    let at = counting.own;
-    let named = owners_of(at, left, offset);
-    let owners = named.owners;
-    let own = named.own;
-    let tally = with_byte(counting.tally, owners);
-    Counting { tally, own }
+    let named = owners_of(counting.own, left, offset);
+    Counting {
+        tally: with_byte(counting.tally, named.owners),
+        own: named.own,
+    }
 }
 
 // Internal: asks for a column that was opened of the left bytes. Counts over all bytes.
@@ -88,10 +87,8 @@ pub fn count(column: Column, left: &[u8], right: &[u8]) -> Tally
         },
         own: text_column::own::begin(left, column),
     };
-    let mut i = 0;
-    while i < left.len() {
+    for i in 0..left.len() {
         counting = count_at(counting, left, right, i);
-        i += 1;
     }
     counting.tally
 }

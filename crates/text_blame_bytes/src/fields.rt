@@ -1,24 +1,17 @@
 // Bytes that differ, and the first of them that is a field's.
 ghost use Rattle.std.specs.Prelude.{◌≡◌, eqb, length, get_or};
-ghost use Rattle.byte_part.specs.Bytes.{part_of, part_meaning};
+ghost use Rattle.byte_part.specs.Bytes.{part_of};
 ghost use Rattle.text_blame_bytes.specs.Fields.{is_field, field_or, first_field};
+ghost use Rattle.format.specs.Refusals.{answered_by};
 
-use byte_part::PartRead;
 use byte_part::naming::shape_of;
-use format::{Column, PartName, Shape};
-
-// The first byte of a field that differs, with the field's name; or there is none.
-#[derive(Clone, Copy)]
-pub enum Field {
-    At(usize, PartName),
-    Nothing,
-}
+use format::{Column, Part, PartName, Refusal, Shape};
 
 // The byte at an offset, 0 past the last.
 fn byte_at(bytes: &[u8], at: usize) -> u8
     ensures { result ≡ get_or bytes.now at 0 }
 {
-    if at < bytes.len() { bytes[at] } else { 0 }
+    bytes.get(at).copied().unwrap_or(0)
 }
 
 // Whether the bytes at an offset are the same.
@@ -33,52 +26,35 @@ fn is_field(shape: Shape) -> bool
     ensures { result ≡ is_field shape }
 {
     match shape {
-        Shape::Varint => true,
-        Shape::Byte => true,
-        Shape::Four => true,
-        Shape::Area => false,
-        Shape::Behind => false,
-        Shape::Spare => false,
+        Shape::Varint | Shape::Byte | Shape::Four => true,
+        Shape::Area | Shape::Behind | Shape::Spare => false,
     }
 }
 
 // The field of a part that was found at an offset.
-fn field_in(part: PartRead, offset: usize) -> Field
-    ensures { result ≡ field_or (part_meaning part) offset Field.Nothing }
+fn field_in(part: Result<Part, Refusal>, offset: usize) -> Option<(usize, PartName)>
+    ensures { result ≡ field_or (answered_by part) offset None }
 {
-    match part {
-        PartRead::Part(part) => {
-            let name = part.name;
-            if is_field(shape_of(name)) {
-                return Field::At(offset, name);
-            }
-            Field::Nothing
-        }
-        PartRead::Refused(_) => Field::Nothing,
+    let name = part.ok()?.name;
+    if is_field(shape_of(name)) {
+        return Some((offset, name));
     }
+    None
 }
 
 // The field of a byte that differs.
-fn field_at(column: Column, left: &[u8], right: &[u8], offset: usize) -> Field
+fn field_at(column: Column, left: &[u8], right: &[u8], offset: usize) -> Option<(usize, PartName)>
     ensures { result ≡ first_field (part_of left.now column) left.now right.now offset 1 }
 {
     if same_at(left, right, offset) {
-        return Field::Nothing;
+        return None;
     }
     field_in(byte_part::part_at(column, left, offset), offset)
 }
 
 // The first field that differs.
-pub fn first_field(column: Column, left: &[u8], right: &[u8]) -> Field
+pub fn first_field(column: Column, left: &[u8], right: &[u8]) -> Option<(usize, PartName)>
     ensures { result ≡ first_field (part_of left.now column) left.now right.now 0 (length left.now) }
 {
-    let mut i = 0;
-    while i < left.len() {
-        let field = field_at(column, left, right, i);
-        if let Field::At(_, _) = field {
-            return field;
-        }
-        i += 1;
-    }
-    Field::Nothing
+    (0..left.len()).find_map(|i| field_at(column, left, right, i))
 }

@@ -2,26 +2,27 @@
 // the block that the last one reached, so that one pass over the footer serves all bytes.
 ghost use Rattle.std.specs.Prelude.{◌≡◌};
 ghost use Rattle.format.specs.Listing.{opened_here};
-ghost use Rattle.byte_owner.specs.Bytes.{rows_of, rows_meaning};
+ghost use Rattle.byte_owner.specs.Bytes.{rows_of};
 ghost use Rattle.byte_owner.specs.Search.{searched, Searching};
 ghost use Rattle.text_column.specs.Own.{table_of, Owned};
 ghost use Rattle.text_blame_bytes.specs.Owners.{owners_found, Stays};
+ghost use Rattle.format.specs.Refusals.{answered_by};
 
-use byte_owner::{RowsRead, Search};
-use format::Owners;
+use byte_owner::Search;
+use format::Refusal;
 use text_column::own::Own;
 
 // The rows of a byte, and the column at the block where their search ended.
 #[derive(Clone, Copy)]
 pub struct Reached {
-    pub rows: RowsRead,
+    pub rows: Result<Option<(u32, u32)>, Refusal>,
     pub own: Own,
 }
 
 // Those rows, none where column and bytes do not fit together at the byte; and the column.
 #[derive(Clone, Copy)]
 pub struct Named {
-    pub owners: Owners,
+    pub owners: Option<(u32, u32)>,
     pub own: Own,
 }
 
@@ -44,12 +45,10 @@ fn go_on(own: Own, bytes: &[u8], search: Search) -> Search
     if search.byte < pass.block.start {
         return search;
     }
-    let answer = search.answer;
     Search {
         next: here,
         left: search.left - passed as u32,
-        byte: search.byte,
-        answer,
+        ..search
     }
 }
 
@@ -57,19 +56,21 @@ fn go_on(own: Own, bytes: &[u8], search: Search) -> Search
 // the search takes its blocks out of the footer, one after another.
 fn rows_at(own: Own, bytes: &[u8], offset: usize) -> Reached
     requires { Owned bytes.now own.column own.pass }
-    ensures rows_value { rows_meaning result.rows ≡ rows_of bytes.now own.column (table_of (opened_here bytes.now)) offset }
+    ensures rows_value { answered_by result.rows ≡ rows_of bytes.now own.column (table_of (opened_here bytes.now)) offset }
     ensures stays { Stays bytes.now own result.own }
 {
     let column = own.column;
     let mut at = own;
     let mut search = go_on(own, bytes, byte_owner::begin(column, bytes, offset));
+    // No range: a step that finds the answer leaves no block, and each other one leaves one less.
     while 0 < search.left {
         at = text_column::own::reach_block(at, bytes, search.next);
-        let block = at.pass.block;
-        search = byte_owner::step(column, block, search);
+        search = byte_owner::step(column, at.pass.block, search);
     }
-    let rows = search.answer;
-    Reached { rows, own: at }
+    Reached {
+        rows: search.answer,
+        own: at,
+    }
 }
 
 // Internal: asks for the same. Those rows; none where column and bytes do not fit together there.
@@ -79,13 +80,8 @@ pub fn owners_of(own: Own, bytes: &[u8], offset: usize) -> Named
     ensures stays { Stays bytes.now own result.own }
 {
     let reached = rows_at(own, bytes, offset);
-    let own = reached.own;
-    let rows = reached.rows;
-    match rows {
-        RowsRead::Owners(owners) => Named { owners, own },
-        RowsRead::Refused(_) => Named {
-            owners: Owners::NoRow,
-            own,
-        },
+    Named {
+        owners: reached.rows.unwrap_or(None),
+        own: reached.own,
     }
 }

@@ -1,9 +1,7 @@
 -- The bytes at which two columns of equal length differ: each with its part, and the rows that own a bit of it with both answers; in ASCII.
 -- Assumes nothing.
-use Rattle.std.specs.Prelude.{ℕ, ◌+◌, ◌-◌, List, [], ◌++◌, eqb, get_or}
+use Rattle.std.specs.Prelude.{ℕ, ◌+◌, ◌-◌, List, [], ◌++◌, eqb, get_or, Option, Some, None}
 use Rattle.format.specs.declared.Column.{Column}
-use Rattle.format.specs.declared.Owners.{Owners}
-use Rattle.format.specs.declared.Owners.TheVariants.{Rows, NoRow}
 use Rattle.format.specs.declared.Part.{Part}
 use Rattle.format.specs.declared.PartName.{PartName}
 use Rattle.format.specs.Outcome.{Outcome, Outcome.value, Outcome.refusal, pick}
@@ -48,9 +46,9 @@ abbrev pub blame_max : ℕ
 blame_max = 512
 
 -- the lines of the rows that a byte names
-abbrev pub owners_text : (left right : ℕ → Outcome ℕ) → Owners → List ℕ
-owners_text left right (Rows first last) = row_texts (row_text left right) first (last + 1 - first)
-owners_text left right NoRow = []
+abbrev pub owners_text : (left right : ℕ → Outcome ℕ) → Option (ℕ × ℕ) → List ℕ
+owners_text left right (Some (first, last)) = row_texts (row_text left right) first (last + 1 - first)
+owners_text left right None = []
 
 -- the byte's line and its rows'; nothing where the bytes are the same
 unfoldable pub text_at : Column → (s : List ℕ) → Column → (t : List ℕ) (i : ℕ) → List ℕ

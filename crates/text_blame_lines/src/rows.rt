@@ -7,7 +7,7 @@ ghost use Rattle.text_blame_bytes.specs.Owners.{Few, Stays};
 ghost use Rattle.text_blame_lines.specs.Bytes.{blame_max, row_text, owners_text, text_at};
 
 use crate::lines::{put_byte_line, put_row};
-use format::{Owners, WindowRow};
+use format::WindowRow;
 use text_blame_bytes::fields::same_at;
 use text_blame_bytes::owners::owners_of;
 use text_column::own::Own;
@@ -38,15 +38,11 @@ fn put_rows(
     ensures wrote { Wrote out.old at (row_texts (row_text (own_row left.column lbytes.now) (own_row right.column rbytes.now)) first (last + 1 - first)) out.new result }
     ensures upper_bound { result ≤ at + 456 }
 {
-    let count = last - first + 1;
     let mut end = at;
-    let mut k = 0;
-    while k < count {
-        let row = first + k;
+    for row in first..=last {
         let a = text_column::own::answer(left, lbytes, WindowRow(row));
         let b = text_column::own::answer(right, rbytes, WindowRow(row));
         end = put_row(out, end, row, a, b);
-        k += 1;
     }
     end
 }
@@ -60,7 +56,7 @@ fn put_owners(
     lbytes: &[u8],
     right: Own,
     rbytes: &[u8],
-    owners: Owners,
+    owners: Option<(u32, u32)>,
 ) -> Put
     requires owned { Owned lbytes.now left.column left.pass × Owned rbytes.now right.column right.pass }
     requires few { Few owners }
@@ -70,7 +66,7 @@ fn put_owners(
     ensures stays { Stays lbytes.now left result.left × Stays rbytes.now right result.right }
 {
     match owners {
-        Owners::Rows { first, last } => {
+        Some((first, last)) => {
             let l = text_column::own::reach(left, lbytes, WindowRow(first));
             let r = text_column::own::reach(right, rbytes, WindowRow(first));
             let end = put_rows(out, at, l, lbytes, r, rbytes, first, last);
@@ -80,7 +76,7 @@ fn put_owners(
                 right: r,
             }
         }
-        Owners::NoRow => Put {
+        None => Put {
             end: at,
             left,
             right,
@@ -115,6 +111,5 @@ pub fn put_offset(
     let part = byte_part::part_at(left.column, lbytes, offset);
     let line = put_byte_line(out, at, offset, part);
     let named = owners_of(left, lbytes, offset);
-    let owners = named.owners;
-    put_owners(out, line, named.own, lbytes, right, rbytes, owners)
+    put_owners(out, line, named.own, lbytes, right, rbytes, named.owners)
 }

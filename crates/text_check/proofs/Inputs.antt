@@ -1,9 +1,9 @@
--- The sheet that a text names, and the values of a file, eight bytes each.
---     other_length, digit_is, no_digit                         a text that is not one character, and one that is
---     Putting, putting_starts, putting_more, putting_ends      a loop that puts them into a list
---     took_many, took_cut, took_all                            taking them, by the file's length
---     taken_values, taken_none                                 what the answer says of the file
+-- The values of a file, eight bytes each.
+--     Putting, putting_more, putting_ends      a loop that puts them into a list
+--     took_many, took_cut, took_all            taking them, by the file's length
+--     taken_values, taken_none                 what the answer says of the file
 -- Assumes nothing.
+use Rattle.std.specs.Prelude.{Result, Ok, Err}
 use Prim.Native.Nat.{ℕ, zero, suc, ◌+◌, ◌-◌, ◌*◌, ◌/◌, ◌%◌, ◌≤◌, ◌<◌}
 use mathlib.Core.Path.{◌≡◌, refl, sym, ap, ◌∙◌}
 use mathlib.Core.List.{List, []}
@@ -11,36 +11,19 @@ use native.Mathlib.Numerals.{add-one}
 use native.Mathlib.Omega.{arith}
 use borrow.Author.Tests.{eq-eqb, ne_eqb, le-leb, lt-leb, leb-true}
 use lib.Dec.{leb, eqb}
-use lib.ListN.{length, take, drop, get_or, set, length-set}
+use lib.ListN.{length, take, drop, set, length-set}
 use lib.Seq.{sets, length-sets, drop-drop}
 use Rattle.format.specs.declared.Refusal.{Refusal}
 use Rattle.format.specs.declared.Refusal.TheVariants.{OverLimit, Unfit}
 use Rattle.format.specs.Outcome.{Outcome, Outcome.value, Outcome.refusal, ◌>>◌, demand, how_many, stored}
-use Rattle.format.specs.Refusals.{paper, numbered}
+use Rattle.format.specs.Refusals.{paper, numbered, answered_by}
 use Rattle.format.specs.Packing.{bytes_num, unpack}
 use Rattle.format.specs.Word.{AllBelow}
 use Rattle.format.proofs.Gathering.{bytes_num_below, unpack-word}
 use Rattle.format.proofs.Lists.{all_drop}
 use Rattle.format.proofs.Outcomes.{by_demand, not_value, value_same}
 use Rattle.format.proofs.Stores.{front_of}
-use Rattle.text_check.specs.declared.given.Taken.{Taken}
-use Rattle.text_check.specs.declared.given.Taken.TheVariants.{Values, Refused as NotTaken}
-use Rattle.text_check.specs.Given.{digit_sheet, sheet_from, words, values_in, taken_meaning, TakenAs}
-
--- ---- the sheet
-
-pub other_length : (text : List ℕ) → (length text ≡ 1 → ⊥) → 0 ≡ sheet_from text
-unfolding sheet_from
-other_length text other = rw (ne_eqb (length text) 1 other)
-
-module _ (text : List ℕ) (one : length text ≡ 1) where
-  pub digit_is : (c : ℕ) → get_or text 0 0 ≡ c → digit_sheet c ≡ sheet_from text
-  unfolding sheet_from
-  digit_is c is = rw (eq-eqb (length text) 1 one, is)
-
-  pub no_digit : (get_or text 0 0 ≡ 49 → ⊥) → (get_or text 0 0 ≡ 50 → ⊥) → 0 ≡ sheet_from text
-  unfolding sheet_from
-  no_digit a b = rw (eq-eqb (length text) 1 one, ne_eqb (get_or text 0 0) 49 a, ne_eqb (get_or text 0 0) 50 b)
+use Rattle.text_check.specs.Given.{words, values_in, TakenAs}
 
 -- ---- the values
 
@@ -57,11 +40,6 @@ pub record Putting (file : List ℕ) (n : ℕ) (before : List ℕ) (i : ℕ) (va
   pub inside : i ≤ n
   pub long : length values ≡ length before
   pub rest : sets values i (words (n - i) (drop (8 * i) file)) ≡ sets before 0 (words n file)
-
-pub putting_starts : (file : List ℕ) (n : ℕ) (before : List ℕ) → Putting file n before 0 before
-putting_starts file n before =
-    let all : n - 0 ≡ n = omega arith in
-    record { inside = omega arith; long = refl; rest = rw all }
 
 module _ {file : List ℕ} {n : ℕ} {before : List ℕ} {i : ℕ} {values : List ℕ} (p : Putting file n before i values) where
   pub putting_more : {v : ℕ} → AllBelow 256 file → i < n → v ≡ unpack 64 file i → Putting file n before (i + 1) (set values i v)
@@ -91,20 +69,20 @@ words_many zero s = refl
 words_many (suc n) s = ap suc (words_many n (drop 8 s))
 
 module _ (file : List ℕ) where
-  pub took_many : {l : List ℕ} → 524288 < length file → TakenAs file (NotTaken OverLimit) l l
+  pub took_many : {l : List ℕ} → 524288 < length file → TakenAs file (Err OverLimit) l l
   unfolding values_in
   took_many many = let over = lt-leb (length file) 524288 many in
       record { answer = rw over; list = rw over }
 
   module _ (few : length file ≤ 524288) where
-    pub took_cut : {l : List ℕ} → (length file % 8 ≡ 0 → ⊥) → TakenAs file (NotTaken Unfit) l l
+    pub took_cut : {l : List ℕ} → (length file % 8 ≡ 0 → ⊥) → TakenAs file (Err Unfit) l l
     unfolding values_in
     took_cut cut =
         let within = le-leb (length file) 524288 few in
         let no = ne_eqb (length file % 8) 0 cut in
         record { answer = rw (within, no); list = rw (within, no) }
 
-    pub took_all : {before after : List ℕ} → length file % 8 ≡ 0 → after ≡ sets before 0 (words (length file / 8) file) → TakenAs file (Values (length file / 8)) before after
+    pub took_all : {before after : List ℕ} → length file % 8 ≡ 0 → after ≡ sets before 0 (words (length file / 8) file) → TakenAs file (Ok (length file / 8)) before after
     unfolding values_in
     took_all whole puts =
         let within = le-leb (length file) 524288 few in
@@ -119,9 +97,9 @@ values_few file vs e =
     (λ few next. by_demand (eqb (length file % 8) 0) 13 [] (value (words (length file / 8) file)) next
     (λ whole same. omega (arith, leb-true (length file) 524288 few, ap length (value_same same), words_many (length file / 8) file)))
 
-module _ (file : List ℕ) {r : Taken} {before after : List ℕ} (t : TakenAs file r before after) where
-  pub taken_values : (n : ℕ) → r ≡ Values n → length after ≡ 65536 → (values_in file ≡ value (take n after)) × (n ≤ 65536)
-  taken_values n is room = go (values_in file) refl (sym (ap taken_meaning is) ∙ t.answer) t.list
+module _ (file : List ℕ) {r : Result ℕ Refusal} {before after : List ℕ} (t : TakenAs file r before after) where
+  pub taken_values : (n : ℕ) → r ≡ Ok n → length after ≡ 65536 → (values_in file ≡ value (take n after)) × (n ≤ 65536)
+  taken_values n is room = go (values_in file) refl (sym (ap answered_by is) ∙ t.answer) t.list
     where
       go : (o : Outcome (List ℕ)) → values_in file ≡ o → value n ≡ how_many o → after ≡ stored o before → (values_in file ≡ value (take n after)) × (n ≤ 65536)
       go (value vs) e f g =
@@ -130,8 +108,8 @@ module _ (file : List ℕ) {r : Taken} {before after : List ℕ} (t : TakenAs fi
           (e ∙ ap value (sym (front_of before after vs n same g (omega (arith, ap length g, length-sets before 0 vs)))), omega arith)
       go (refusal number also) e f g = absurd (not_value (sym f))
 
-  pub taken_none : (q : Refusal) → r ≡ NotTaken q → values_in file ≡ numbered q
-  taken_none q is = go (values_in file) (sym (ap taken_meaning is) ∙ t.answer)
+  pub taken_none : (q : Refusal) → r ≡ Err q → values_in file ≡ numbered q
+  taken_none q is = go (values_in file) (sym (ap answered_by is) ∙ t.answer)
     where
       go : (o : Outcome (List ℕ)) → numbered {A = ℕ} q ≡ how_many o → o ≡ numbered q
       go (value vs) f = absurd (not_value f)

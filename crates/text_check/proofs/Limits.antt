@@ -2,10 +2,10 @@
 --     over_bytes          more than 65,536 bytes: 16, whatever they are
 --     within_limits       else the limited verdict, for a list that is not longer than the limit on rows
 -- Assumes nothing.
+use Rattle.std.specs.Prelude.{Option, Some, None}
 use Prim.Native.Nat.{ℕ, ◌+◌, ◌*◌, ◌≤◌, ◌<◌}
 use mathlib.Core.Path.{◌≡◌, refl}
 use mathlib.Core.Bool.{Bool, true, false}
-use mathlib.Core.Option.{Option, none, some}
 use mathlib.Core.List.{List, []}
 use native.Mathlib.Omega.{arith}
 use borrow.Author.Tests.{le-leb, lt-leb, ne_eqb, leb-false, leb-true}
@@ -41,8 +41,8 @@ head_kept col s = three (eqb col.minimum s.minimum) (eqb col.gcd s.gcd) (eqb (co
 
 -- on the rows before it
 rows_kept : (r : Option ℕ) (v : Verdict) → limited v ≡ v → limited (by_row r v) ≡ by_row r v
-rows_kept none v kept = kept
-rows_kept (some r) v kept = refl
+rows_kept None v kept = kept
+rows_kept (Some r) v kept = refl
 
 -- ---- the limit on rows
 

@@ -1,11 +1,10 @@
 -- What the program is given: the sheet as text, and a file of values.
 -- Assumes nothing.
-use Rattle.std.specs.Prelude.{ℕ, zero, suc, ◌/◌, ◌%◌, ◌≡◌, List, [], ◌∷◌, leb, eqb, length, take, drop, get_or}
+use Rattle.format.specs.declared.Refusal.{Refusal}
+use Rattle.std.specs.Prelude.{ℕ, zero, suc, ◌/◌, ◌%◌, ◌≡◌, List, [], ◌∷◌, leb, eqb, length, take, drop, get_or, Result}
 use Rattle.format.specs.Outcome.{Outcome, Outcome.value, ◌>>◌, demand, pick, how_many, stored}
 use Rattle.format.specs.Packing.{bytes_num}
-use Rattle.format.specs.Refusals.{numbered}
-use Rattle.text_check.specs.declared.given.Taken.{Taken}
-use Rattle.text_check.specs.declared.given.Taken.TheVariants.{Values, Refused as NotTaken}
+use Rattle.format.specs.Refusals.{answered_by}
 
 -- the sheet of a digit, 1 or 2; any other character is 0, which is no sheet
 abbrev pub digit_sheet : ℕ → ℕ
@@ -27,12 +26,7 @@ values_in file = do
   demand (eqb (length file % 8) 0) 13 []
   value (words (length file / 8) file)
 
--- what taking values found: how many there are
-abbrev pub taken_meaning : Taken → Outcome ℕ
-taken_meaning (Values n) = value n
-taken_meaning (NotTaken r) = numbered r
-
 -- taking the values of a file into a list
-pub record TakenAs (file : List ℕ) (r : Taken) (before after : List ℕ) : Type 0 where
-  pub answer : taken_meaning r ≡ how_many (values_in file)
+pub record TakenAs (file : List ℕ) (r : Result ℕ Refusal) (before after : List ℕ) : Type 0 where
+  pub answer : answered_by r ≡ how_many (values_in file)
   pub list : after ≡ stored (values_in file) before

@@ -9,15 +9,13 @@ use format::Refusal;
 const FILE_MAX: usize = 524288;
 
 // The sheet that a text names: 0, which is no sheet, where it is neither of the digits 1 and 2.
+#[tactic(auto, unfolding(crate::specs::Given::sheet_from))]
 pub(crate) fn sheet_of(text: &[u8]) -> u32
     ensures { result ≡ sheet_from text.now }
 {
-    if text.len() != 1 {
-        return 0;
-    }
-    match text[0] {
-        b'1' => 1,
-        b'2' => 2,
+    match text {
+        [b'1'] => 1,
+        [b'2'] => 2,
         _ => 0,
     }
 }
@@ -27,31 +25,21 @@ fn put_values(file: &[u8], values: &mut [u64])
     requires { (length file.now / 8 ≤ length values.old) × (length file.now ≤ 524288) }
     ensures { values.new ≡ sets values.old 0 (words (length file.now / 8) file.now) }
 {
-    let n = file.len() / 8;
-    let mut i = 0;
-    while i < n {
+    for i in 0..file.len() / 8 {
         values[i] = bitpacker::get(file, 64, i as u32);
-        i += 1;
     }
-}
-
-// Taking values out of a file: how many now stand in the lent list.
-#[derive(Clone, Copy)]
-pub enum Taken {
-    Values(usize),
-    Refused(Refusal),
 }
 
 // Puts the values of a file into the front of the lent list; a refusal leaves it as it was.
-pub(crate) fn take(file: &[u8], values: &mut [u64; 65536]) -> Taken
+pub(crate) fn take(file: &[u8], values: &mut [u64; 65536]) -> Result<usize, Refusal>
     ensures { TakenAs file.now result values.old values.new }
 {
     if FILE_MAX < file.len() {
-        return Taken::Refused(Refusal::OverLimit);
+        return Err(Refusal::OverLimit);
     }
     if file.len() % 8 != 0 {
-        return Taken::Refused(Refusal::Unfit);
+        return Err(Refusal::Unfit);
     }
     put_values(file, values);
-    Taken::Values(file.len() / 8)
+    Ok(file.len() / 8)
 }

@@ -8,7 +8,6 @@ mod verdicts;
 
 ghost use Rattle.text_check.specs.Verdicts.{JudgesAs};
 
-use given::Taken;
 use text::lines::named_line;
 
 // Puts the values of a file into the lent list, checks the column against them under the sheet that a text names, and writes the verdict at the start of the
@@ -23,10 +22,10 @@ pub fn judge(
     ensures { JudgesAs sheet.now bytes.now file.now result values.old values.new line.old line.new }
 {
     match given::take(file, values) {
-        Taken::Values(n) => {
+        Ok(n) => {
             let checked = verdicts::check_front(given::sheet_of(sheet), bytes, values, n);
             lines::verdict_line(checked, line)
         }
-        Taken::Refused(refusal) => named_line(b"values refused ", refusal.number() as u64, line),
+        Err(refusal) => named_line(b"values refused ", refusal.number() as u64, line),
     }
 }

@@ -5,7 +5,7 @@ ghost use Rattle.format.specs.Outcome.{Wrote};
 ghost use Rattle.format.specs.Refusals.{checked_meaning};
 ghost use Rattle.text_check.specs.Verdicts.{verdict_line};
 
-use format::Checked;
+use format::Mismatch;
 use text::lines::{named_line, pair_line};
 use text::put::put_text;
 
@@ -19,21 +19,21 @@ fn text_line(text: &[u8], line: &mut [u8; 128]) -> usize
 }
 
 // Writes a verdict at the start of a line, and returns its length.
-pub(crate) fn verdict_line(checked: Checked, line: &mut [u8; 128]) -> usize
+pub(crate) fn verdict_line(checked: Result<(), Mismatch>, line: &mut [u8; 128]) -> usize
     ensures wrote { Wrote line.old 0 (verdict_line (checked_meaning checked)) line.new result }
     ensures prefix_len { IsPrefixLen result line.new }
 {
     match checked {
-        Checked::Passed => text_line(b"yes\n", line),
-        Checked::Unopened(refusal) => {
+        Ok(()) => text_line(b"yes\n", line),
+        Err(Mismatch::Unopened(refusal)) => {
             named_line(b"no column refused ", refusal.number() as u64, line)
         }
-        Checked::Counts { column, list } => {
+        Err(Mismatch::Counts { column, list }) => {
             pair_line(b"no rows ", column as u64, b" values ", list as u64, line)
         }
-        Checked::Unequal { row } => named_line(b"no row ", row as u64, line),
-        Checked::Minimum => text_line(b"no minimum\n", line),
-        Checked::Gcd => text_line(b"no gcd\n", line),
-        Checked::Maximum => text_line(b"no maximum\n", line),
+        Err(Mismatch::Unequal { row }) => named_line(b"no row ", row as u64, line),
+        Err(Mismatch::Minimum) => text_line(b"no minimum\n", line),
+        Err(Mismatch::Gcd) => text_line(b"no gcd\n", line),
+        Err(Mismatch::Maximum) => text_line(b"no maximum\n", line),
     }
 }

@@ -1,7 +1,6 @@
 -- The values of rows that a list holds.
 --     values_none, values_front      no row; those that stand in the front of a list
 --     holds_nothing, holds-chunk     no row; those that a chunk was read of
---     held_row, held_at              a row that it holds; one of the block at hand
 -- Assumes nothing.
 use Prim.Native.Nat.{ℕ, ◌+◌, ◌-◌, ◌/◌, ◌≤◌, ◌<◌}
 use mathlib.Core.Path.{◌≡◌, sym, ap, ◌∙◌, subst}
@@ -17,7 +16,7 @@ use Rattle.read_row.specs.Chunks.{chunk_size}
 use Rattle.blockwise_linear.specs.declared.passing.Pass.{Pass}
 use Rattle.text_column.specs.declared.held.Held.{Held}
 use Rattle.text_column.specs.Holding.{Values, Holds, HoldsAt}
-use Rattle.text_column.specs.Own.{table_of, own_row, block_of, pass_at, Shows, Owned, AtRow}
+use Rattle.text_column.specs.Own.{table_of, own_row, block_of, pass_at, Shows, Owned}
 use Rattle.text_column.proofs.Owns.{own_row_block, owned_at}
 
 module _ (read : ℕ → Outcome ℕ) (r : ℕ) where
@@ -54,12 +53,3 @@ module _ {s : List ℕ} {c : Column} {values : List ℕ} where
         from = omega arith;
         at = λ _. omega (arith, long, inside);
       }
-
-  module _ {h : Held} {row : ℕ} where
-    pub held_row : HoldsAt s c row h values → row - h.first.0 < h.count → value (get_or values (row - h.first.0) 0) ≡ own_row c s row
-    held_row f below =
-        let here : h.first.0 + (row - h.first.0) ≡ row = omega (arith, f.from) in
-        sym (ap (own_row c s) (sym here) ∙ f.holds.rows.each (row - h.first.0) below)
-
-    pub held_at : HoldsAt s c row h values → row < c.window.rows → AtRow s c h.pass.block row
-    held_at f inside = record { shows = f.holds.own.shows; inside = inside; block = f.holds.block row f.from (f.at inside) }

@@ -4,6 +4,7 @@
 --     kept_column, kept_refusal     else what opening found
 --     here_opened, here_bounds      what a program opens was opened, with room for 2048 blocks; its maximum has 64 bits
 -- Assumes nothing.
+use Rattle.std.specs.Prelude.{Option, Ok, Err}
 use Prim.Native.Nat.{ℕ, ◌+◌, ◌*◌, ◌^◌, ◌≤◌, ◌<◌}
 use mathlib.Core.Path.{◌≡◌, sym, ap, ◌∙◌}
 use mathlib.Core.Bool.{Bool, true, false}
@@ -14,20 +15,18 @@ use borrow.Author.Tests.{le-leb, lt-leb, eq-eqb, ne_eqb}
 use lib.Dec.{leb, eqb}
 use lib.ListN.{length}
 use Rattle.format.specs.declared.Column.{Column}
-use Rattle.format.specs.declared.Opened.TheVariants.{Column as OpenedColumn, Refused}
 use Rattle.format.specs.declared.Refusal.{Refusal}
-use Rattle.format.specs.declared.Spelling.{Spelling}
 use Rattle.format.specs.declared.Refusal.TheVariants.{OverLimit}
 use Rattle.format.specs.Listing.{too_many, opened_here}
 use Rattle.format.specs.Opening.{Loaded, opened, column_in}
 use Rattle.format.specs.Outcome.{Outcome, Outcome.value, Outcome.refusal, pick}
-use Rattle.format.specs.Refusals.{paper, opened_meaning}
+use Rattle.format.specs.Refusals.{paper, answered_by}
 use Rattle.format.proofs.Laid.{opened_laid}
 use Rattle.format.proofs.Outcomes.{by_demand, by_step, not_value, value_same}
 
 -- ---- the bytes
 
-pub over_bytes : (s : List ℕ) → 65536 < length s → opened_meaning (Refused OverLimit) ≡ column_in (opened_here s)
+pub over_bytes : (s : List ℕ) → 65536 < length s → answered_by (Err OverLimit) ≡ column_in (opened_here s)
 unfolding opened_here
 over_bytes s h = rw (lt-leb (length s) 65536 h)
 
@@ -38,39 +37,39 @@ few_bytes s h = simp (le-leb (length s) 65536 h)
 -- ---- the rows
 
 module _ (s : List ℕ) (small : length s ≤ 65536) where
-  module _ (c : Column) (p : Spelling) (found : opened_meaning (OpenedColumn c p) ≡ column_in (opened s 2048)) where
-    pub over_rows : 1048576 < c.rows → opened_meaning (Refused OverLimit) ≡ column_in (opened_here s)
+  module _ (c : Column) (p : Option ℕ) (found : answered_by (Ok (c, p)) ≡ column_in (opened s 2048)) where
+    pub over_rows : 1048576 < c.rows → answered_by (Err OverLimit) ≡ column_in (opened_here s)
     over_rows many = rw (few_bytes s small) (go (opened s 2048) found)
       where
-        go : (o : Outcome Loaded) → opened_meaning (OpenedColumn c p) ≡ column_in o → opened_meaning (Refused OverLimit) ≡ column_in (too_many o)
+        go : (o : Outcome Loaded) → answered_by (Ok (c, p)) ≡ column_in o → answered_by (Err OverLimit) ≡ column_in (too_many o)
         go (value l) f =
-            let more : 1048576 < l.column.rows = rw (ap (λ (a : Column × Spelling). a.0) (value_same f)) at many in
+            let more : 1048576 < l.column.rows = rw (ap (λ (a : Column × (Option ℕ)). a.0) (value_same f)) at many in
             rw (lt-leb l.column.rows 1048576 more)
         go (refusal number also) f = absurd (not_value (sym f))
 
-    pub kept_column : c.rows ≤ 1048576 → opened_meaning (OpenedColumn c p) ≡ column_in (opened_here s)
+    pub kept_column : c.rows ≤ 1048576 → answered_by (Ok (c, p)) ≡ column_in (opened_here s)
     kept_column few = rw (few_bytes s small) (go (opened s 2048) found)
       where
-        go : (o : Outcome Loaded) → opened_meaning (OpenedColumn c p) ≡ column_in o → opened_meaning (OpenedColumn c p) ≡ column_in (too_many o)
+        go : (o : Outcome Loaded) → answered_by (Ok (c, p)) ≡ column_in o → answered_by (Ok (c, p)) ≡ column_in (too_many o)
         go (value l) f =
-            let less : l.column.rows ≤ 1048576 = rw (ap (λ (a : Column × Spelling). a.0) (value_same f)) at few in
+            let less : l.column.rows ≤ 1048576 = rw (ap (λ (a : Column × (Option ℕ)). a.0) (value_same f)) at few in
             rw (le-leb l.column.rows 1048576 less) f
         go (refusal number also) f = absurd (not_value (sym f))
 
-  module _ (x : Refusal) (found : opened_meaning (Refused x) ≡ column_in (opened s 2048)) where
-    pub over_blocks : (paper x).0 ≡ 11 → opened_meaning (Refused OverLimit) ≡ column_in (opened_here s)
+  module _ (x : Refusal) (found : answered_by (Err x) ≡ column_in (opened s 2048)) where
+    pub over_blocks : (paper x).0 ≡ 11 → answered_by (Err OverLimit) ≡ column_in (opened_here s)
     over_blocks eleven = rw (few_bytes s small) (go (opened s 2048) found)
       where
-        go : (o : Outcome Loaded) → opened_meaning (Refused x) ≡ column_in o → opened_meaning (Refused OverLimit) ≡ column_in (too_many o)
+        go : (o : Outcome Loaded) → answered_by (Err x) ≡ column_in o → answered_by (Err OverLimit) ≡ column_in (too_many o)
         go (value l) f = absurd (not_value f)
         go (refusal number also) f =
             let same : number ≡ 11 = cc f in
             rw (eq-eqb number 11 same)
 
-    pub kept_refusal : ((paper x).0 ≡ 11 → ⊥) → opened_meaning (Refused x) ≡ column_in (opened_here s)
+    pub kept_refusal : ((paper x).0 ≡ 11 → ⊥) → answered_by (Err x) ≡ column_in (opened_here s)
     kept_refusal other = rw (few_bytes s small) (go (opened s 2048) found)
       where
-        go : (o : Outcome Loaded) → opened_meaning (Refused x) ≡ column_in o → opened_meaning (Refused x) ≡ column_in (too_many o)
+        go : (o : Outcome Loaded) → answered_by (Err x) ≡ column_in o → answered_by (Err x) ≡ column_in (too_many o)
         go (value l) f = absurd (not_value f)
         go (refusal number also) f =
             let same : (paper x).0 ≡ number = cc f in
@@ -91,10 +90,10 @@ here_opened s o e = by_demand (leb (length s) 65536) 16 [] (too_many (opened s 2
     within (refusal number also) e = absurd (kept (eqb number 11) number also e)
 
 -- its maximum has 64 bits
-pub here_bounds : (s : List ℕ) (c : Column) (p : Spelling) → column_in (opened_here s) ≡ value (c, p) → c.minimum + c.gcd * c.count < 2 ^ 64
+pub here_bounds : (s : List ℕ) (c : Column) (p : Option ℕ) → column_in (opened_here s) ≡ value (c, p) → c.minimum + c.gcd * c.count < 2 ^ 64
 here_bounds s c p e =
-    by_step (opened_here s) (λ (o : Loaded). value (o.column, o.spelling)) e λ (o : Loaded) found same.
-    let is : o.column ≡ c = ap (λ (a : Column × Spelling). a.0) (value_same same) in
+    by_step (opened_here s) (λ (o : Loaded). value (o.column, o.longer)) e λ (o : Loaded) found same.
+    let is : o.column ≡ c = ap (λ (a : Column × (Option ℕ)). a.0) (value_same same) in
     let laid = opened_laid s 2048 o (here_opened s o found) in
     let bounds : c.minimum + c.count * c.gcd < 2 ^ 64 = rw is at laid.head.bounds in
     omega (arith, mul_comm c.gcd c.count)

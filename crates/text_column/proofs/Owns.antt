@@ -7,6 +7,9 @@
 --     own_fits                                       all fits together at each of its rows: none is refused 13
 --     own_answers, own_values                        so what a row answers is its value, or 14; the values of a chunk of which no row is refused
 -- Assumes nothing.
+use Rattle.format.specs.declared.Refusal.{Refusal}
+use Rattle.text_column.specs.declared.own.Own.{Own}
+use Rattle.std.specs.Prelude.{Result, Ok, Err}
 use Prim.Native.Nat.{ℕ, ◌+◌, ◌-◌, ◌*◌, ◌/◌, ◌%◌, ◌^◌, ◌≤◌, ◌<◌}
 use mathlib.Core.Path.{◌≡◌, refl, sym, ap, ◌∙◌, subst}
 use mathlib.Core.Bool.{true}
@@ -33,8 +36,6 @@ use Rattle.read_row.specs.Chunks.{Fitting, chunk_size}
 use Rattle.read_row.proofs.Fitting.{fitting}
 use Rattle.read_chunk.proofs.Stretches.{run_stretch, stretch_value}
 use Rattle.open_column.proofs.Passes.{opened-footer, pass_block, few_blocked, passing_at}
-use Rattle.text_column.specs.declared.own.Narrowed.{Narrowed as OwnNarrowed}
-use Rattle.text_column.specs.declared.own.Narrowed.TheVariants.{Own as NarrowedOwn, Refused as NotNarrowed}
 use Rattle.text_column.specs.Own.{table_of, own_row, block_rows, narrowed_in, own_in, block_of, pass_at, Shows, Owned, AtRow}
 use Rattle.text_column.proofs.Limits.{here_opened}
 use Rattle.text_column.proofs.Rows.{here_laid, shows_narrowed, by_shown, shows_laid}
@@ -86,15 +87,15 @@ module _ {s : List ℕ} {c : Column} (e : Shows s c) where
     own_row_block = own_block (block_of c r) (omega (arith, own_there, own_moved)) ∙ ap (λ (q : ℕ). block_at (table_of (opened_here s)) (q / 512)) own_moved
 
 -- a narrowed column has the same blocks, so the pass stays; and what is refused is as it was
-pub owned_narrowed : {s : List ℕ} {c : Column} {p : Pass} (first count : ℕ) (r : OwnNarrowed) → Owned s c p → narrowed_meaning (narrowed_in r) ≡ narrowing c first count → (own_in r).pass ≡ p
+pub owned_narrowed : {s : List ℕ} {c : Column} {p : Pass} (first count : ℕ) (r : Result Own (Refusal × Own)) → Owned s c p → narrowed_meaning (narrowed_in r) ≡ narrowing c first count → (own_in r).pass ≡ p
     → Owned s (own_in r).column (own_in r).pass
 owned_narrowed {s} {c} {p} first count r f answer same = subst (λ (q : Pass). Owned s (own_in r).column q) (sym same) (go (narrowed c first count) refl r answer)
   where
-    after : (r : OwnNarrowed) → (own_in r).column ≡ (narrowed_meaning (narrowed_in r)).1
-    after (NarrowedOwn o) = refl
-    after (NotNarrowed why o) = refl
+    after : (r : Result Own (Refusal × Own)) → (own_in r).column ≡ (narrowed_meaning (narrowed_in r)).1
+    after (Ok o) = refl
+    after (Err (why, o)) = refl
 
-    go : (o : Outcome Column) → narrowed c first count ≡ o → (r : OwnNarrowed) → narrowed_meaning (narrowed_in r) ≡ (o, column_after o c) → Owned s (own_in r).column p
+    go : (o : Outcome Column) → narrowed c first count ≡ o → (r : Result Own (Refusal × Own)) → narrowed_meaning (narrowed_in r) ≡ (o, column_after o c) → Owned s (own_in r).column p
     go (value d) n r answer =
         subst (λ (k : Column). Owned s k p) (sym (after r ∙ ap (λ (a : Outcome Column × Column). a.1) answer))
         (record { shows = shows_narrowed first count f.shows n; pass = subst (λ (k : Column). Passing s (block_rows k) p) (sym (narrowed_is c d first count n).is) f.pass })

@@ -1,10 +1,9 @@
 -- A column that a program opened, read with the bytes that it was opened from.
 -- Assumes nothing.
-use Rattle.std.specs.Prelude.{ℕ, ◌+◌, ◌/◌, ◌%◌, ◌^◌, ◌<◌, min, ◌≡◌, List, []}
+use Rattle.format.specs.declared.Refusal.{Refusal}
+use Rattle.std.specs.Prelude.{ℕ, ◌+◌, ◌/◌, ◌%◌, ◌^◌, ◌<◌, min, ◌≡◌, List, [], Result, Ok, Err}
 use Rattle.format.specs.declared.Block.{Block}
 use Rattle.format.specs.declared.Column.{Column}
-use Rattle.format.specs.declared.Narrowed.{Narrowed}
-use Rattle.format.specs.declared.Narrowed.TheVariants.{Column as NarrowedColumn, Refused}
 use Rattle.format.specs.Bodies.{block_count}
 use Rattle.format.specs.Listing.{opened_here}
 use Rattle.format.specs.Opening.{Loaded}
@@ -16,8 +15,6 @@ use Rattle.blockwise_linear.specs.declared.passing.Pass.{Pass}
 use Rattle.blockwise_linear.specs.Passing.{passed, Passing}
 use Rattle.open_column.specs.Opening.{blocked}
 use Rattle.text_column.specs.declared.own.Own.{Own}
-use Rattle.text_column.specs.declared.own.Narrowed.{Narrowed as OwnNarrowed}
-use Rattle.text_column.specs.declared.own.Narrowed.TheVariants.{Own as NarrowedOwn, Refused as NotNarrowed}
 
 -- ---- its rows
 
@@ -55,14 +52,14 @@ own_at s c k = record { column = c; pass = pass_at s c k }
 -- ---- narrowing it
 
 -- the answer of the column alone
-abbrev pub narrowed_in : OwnNarrowed → Narrowed
-narrowed_in (NarrowedOwn o) = NarrowedColumn o.column
-narrowed_in (NotNarrowed why o) = Refused why o.column
+abbrev pub narrowed_in : Result Own (Refusal × Own) → Result Column (Refusal × Column)
+narrowed_in (Ok o) = Ok o.column
+narrowed_in (Err (why, o)) = Err (why, o.column)
 
 -- what is owned afterwards
-abbrev pub own_in : OwnNarrowed → Own
-own_in (NarrowedOwn o) = o
-own_in (NotNarrowed why o) = o
+abbrev pub own_in : Result Own (Refusal × Own) → Own
+own_in (Ok o) = o
+own_in (Err (why, o)) = o
 
 -- ---- what is asked of a column
 

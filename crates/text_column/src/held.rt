@@ -1,13 +1,14 @@
 // Rows in ascending order, a chunk at a time: a list holds the values of the chunk at hand, with the column's block there. A row that it does not hold, be it that reading
 // refuses a row of the chunk, or that there is no such row, is read by itself; so a chunk is decoded once, however many of its rows are refused.
 ghost use Rattle.std.specs.Prelude.{◌≡◌, ◌≤◌};
-ghost use Rattle.format.specs.Refusals.{row_meaning};
 ghost use Rattle.text_column.specs.Holding.{Holds, HoldsAt};
 ghost use Rattle.text_column.specs.Own.{own_row};
+ghost use Rattle.format.specs.Refusals.{answered_by};
 
 use crate::own;
 use blockwise_linear::passing::Pass;
-use format::{Column, Refusal, RowRead, WindowRow};
+use format::{Column, Refusal, WindowRow};
+use read_row::reader::block_of;
 
 // What a list holds: the values of the first `count` of the rows from `first` up to `end`, which are of the block that the pass stands at.
 #[derive(Clone, Copy)]
@@ -45,7 +46,7 @@ pub fn hold(
     if column.window.rows <= row.0 {
         return held;
     }
-    let number = own::block_of(column, row);
+    let number = block_of(column, row);
     let pass = own::pass_at(column, bytes, held.pass, number);
     let block = pass.block;
     let at = read_row::reader::column_row(column.window.first, row);
@@ -60,22 +61,23 @@ pub fn hold(
 }
 
 // Internal: asks for a list that holds what is said, of the row's block. The value of a row, out of the list where that holds it.
+#[tactic(auto, using(crate::proofs::Rows::own_lacking))]
 pub fn answer(
     column: Column,
     bytes: &[u8],
     row: WindowRow,
     held: Held,
     values: &[u64; 512],
-) -> RowRead
+) -> Result<u64, Refusal>
     requires { HoldsAt bytes.now column row.0 held values.now }
-    ensures { row_meaning result ≡ own_row column bytes.now row.0 }
+    ensures { answered_by result ≡ own_row column bytes.now row.0 }
 {
     let place = (row.0 - held.first.0) as usize;
     if place < held.count {
-        return RowRead::Value(values[place]);
+        return Ok(values[place]);
     }
     if column.window.rows <= row.0 {
-        return RowRead::Refused(Refusal::NoSuchRow);
+        return Err(Refusal::NoSuchRow);
     }
     let block = held.pass.block;
     own::row(column, block, bytes, row)

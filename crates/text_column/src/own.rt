@@ -3,14 +3,15 @@
 ghost use Rattle.std.specs.Prelude.{◌≡◌, ◌-◌, length};
 ghost use Rattle.format.specs.Bodies.{block_count};
 ghost use Rattle.format.specs.Reading.{column_row};
-ghost use Rattle.format.specs.Refusals.{row_meaning};
 ghost use Rattle.read_row.specs.Chunks.{chunk_size};
 ghost use Rattle.text_column.specs.Holding.{Values};
 ghost use Rattle.text_column.specs.Own.{own_row, block_rows, own_first, block_of, pass_at, own_at, Owned, AtRow};
 ghost use Rattle.text_column.specs.Calls.{NarrowsAs};
+ghost use Rattle.format.specs.Refusals.{answered_by};
 
 use blockwise_linear::passing::Pass;
-use format::{Block, Codec, Column, Refusal, RowRead, WindowRow};
+use format::{Block, Codec, Column, Refusal, WindowRow};
+use read_row::reader::block_of;
 
 // The column, and a pass over its blocks.
 #[derive(Clone, Copy)]
@@ -19,21 +20,12 @@ pub struct Own {
     pub pass: Pass,
 }
 
-// Narrowing it: with the new window, or a refusal and as it was.
-#[derive(Clone, Copy)]
-pub enum Narrowed {
-    Own(Own),
-    Refused(Refusal, Own),
-}
-
 // The rows of a column that have blocks: those of a Blockwise one.
 fn block_rows(column: Column) -> u32
     ensures { result ≡ block_rows column }
 {
-    let codec = column.codec;
-    match codec {
-        Codec::Bitpacked => 0,
-        Codec::Linear(_, _) => 0,
+    match column.codec {
+        Codec::Bitpacked | Codec::Linear(_, _) => 0,
         Codec::Blockwise => column.rows,
     }
 }
@@ -55,28 +47,19 @@ pub fn begin(bytes: &[u8], column: Column) -> Own
     Own { column, pass }
 }
 
-// Narrows a column's window to `count` rows from its row `first` on. The pass is over the column's blocks, and stays.
-pub fn narrow(own: Own, first: WindowRow, count: u32) -> Narrowed
+// Narrows a column's window to `count` rows from its row `first` on; a refusal returns it as it was. The pass is over the column's blocks, and stays.
+pub fn narrow(own: Own, first: WindowRow, count: u32) -> Result<Own, (Refusal, Own)>
     ensures { NarrowsAs own.column own.pass first.0 count result }
 {
     let pass = own.pass;
     match open_column::narrow(own.column, first.0, count) {
-        format::Narrowed::Column(column) => Narrowed::Own(Own { column, pass }),
-        format::Narrowed::Refused(refusal, column) => {
-            Narrowed::Refused(refusal, Own { column, pass })
-        }
+        Ok(column) => Ok(Own { column, pass }),
+        Err((refusal, column)) => Err((refusal, Own { column, pass })),
     }
 }
 
-// The block of a row of the window.
-pub(crate) fn block_of(column: Column, row: WindowRow) -> usize
-    ensures { result ≡ block_of column row.0 }
-{
-    let at = read_row::reader::column_row(column.window.first, row);
-    blockwise_rows::reader::split(at).block
-}
-
 // Internal: asks for a column that was opened of these bytes, seen through a window that lies in it, and a pass over its blocks. The pass at a block.
+#[tactic(auto, using(crate::proofs::Owns::own_checked))]
 pub(crate) fn pass_at(column: Column, bytes: &[u8], pass: Pass, block: usize) -> Pass
     requires { Owned bytes.now column pass }
     ensures { result ≡ pass_at bytes.now column block }
@@ -105,21 +88,28 @@ pub fn reach(own: Own, bytes: &[u8], row: WindowRow) -> Own
 }
 
 // Internal: asks for a row of the window, and its block. The value of the row.
-pub(crate) fn row(column: Column, block: Block, bytes: &[u8], row: WindowRow) -> RowRead
+#[tactic(auto, using(crate::proofs::Owns::own_answers))]
+pub(crate) fn row(
+    column: Column,
+    block: Block,
+    bytes: &[u8],
+    row: WindowRow,
+) -> Result<u64, Refusal>
     requires { AtRow bytes.now column block row.0 }
-    ensures { row_meaning result ≡ own_row column bytes.now row.0 }
+    ensures { answered_by result ≡ own_row column bytes.now row.0 }
 {
     read_row::reader::row_fitting(column, block, bytes, row)
 }
 
 // Internal: asks for a column that was opened of these bytes, seen through a window that lies in it, and a pass over its blocks. The value of a row; one that the window lacks is refused.
-pub fn answer(own: Own, bytes: &[u8], row: WindowRow) -> RowRead
+#[tactic(auto, using(crate::proofs::Rows::own_lacking, crate::proofs::Owns::own_row_block))]
+pub fn answer(own: Own, bytes: &[u8], row: WindowRow) -> Result<u64, Refusal>
     requires { Owned bytes.now own.column own.pass }
-    ensures { row_meaning result ≡ own_row own.column bytes.now row.0 }
+    ensures { answered_by result ≡ own_row own.column bytes.now row.0 }
 {
     let column = own.column;
     if column.window.rows <= row.0 {
-        return RowRead::Refused(Refusal::NoSuchRow);
+        return Err(Refusal::NoSuchRow);
     }
     let number = block_of(column, row);
     let pass = pass_at(column, bytes, own.pass, number);

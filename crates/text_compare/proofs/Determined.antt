@@ -1,18 +1,19 @@
 -- What the comparison's calls promise determines what they answer and what every lent entry holds afterwards: two results that it allows coincide.
 --     begin_determined, row_count_determined, fill_lines_determined, end_line_determined
 -- Assumes nothing.
+use Rattle.text_column.specs.declared.own.Own.{Own}
+use Rattle.std.specs.Prelude.{Result}
 use Prim.Native.Nat.{ℕ}
 use mathlib.Core.Path.{◌≡◌, sym, ◌∙◌}
 use mathlib.Core.List.{List}
 use Rattle.format.specs.declared.Column.{Column}
 use Rattle.format.specs.Listing.{opened_here}
-use Rattle.text_compare.specs.declared.Begun.{Begun}
 use Rattle.text_compare.specs.declared.Compared.{Compared}
 use Rattle.text_compare.specs.Beginning.{BegunAs}
 use Rattle.text_compare.specs.Chunk.{CountedAs, ComparedAs, EndedAs}
 
 -- two answers of `begin`, and what the lent line holds afterwards
-pub begin_determined : (s t line : List ℕ) (a b : Begun) (new new' : List ℕ)
+pub begin_determined : (s t line : List ℕ) (a b : Result (Own × Own) ℕ) (new new' : List ℕ)
     → BegunAs s t (opened_here s) (opened_here t) a line new → BegunAs s t (opened_here s) (opened_here t) b line new' → (a ≡ b) × (new ≡ new')
 begin_determined s t line a b new new' p q = (p.answer ∙ sym q.answer, p.line ∙ sym q.line)
 

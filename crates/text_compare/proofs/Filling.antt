@@ -52,11 +52,12 @@ module _ {left right : ℕ → Outcome ℕ} {rows from r lines at : ℕ} {old ne
       }
 
   module _ (none : pair_rows left right rows (length old - at) r ≡ 0) where
-    pub pairing_answer : ◌≡◌ {A = Compared} (record { rows = r - from; lines = lines; bytes = at }) (compared_in left right rows (length old) from)
-    pairing_answer =
-        let looked = filling_rows p.text none in
+    pub pairing_answer : {n : ℕ} → from + n ≡ r → ◌≡◌ {A = Compared} (record { rows = n; lines = lines; bytes = at }) (compared_in left right rows (length old) from)
+    pairing_answer {n} ends =
+        let looked : n ≡ pair_rows left right rows (length old) from = omega (arith, filling_rows p.text none) in
+        let behind : r - from ≡ n = omega arith in
         let counted : lines ≡ length (differing left right from (pair_rows left right rows (length old) from)) =
-        p.counted ∙ ap (λ (n : ℕ). length (differing left right from n)) looked in
+        p.counted ∙ ap (λ (n : ℕ). length (differing left right from n)) (behind ∙ looked) in
         let long = filling_bytes p.text none in
         λ i. record { rows = looked i; lines = counted i; bytes = long i }
 

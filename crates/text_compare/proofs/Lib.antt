@@ -1,7 +1,6 @@
 -- Laws and theorems; the head of each file lists what it offers.
 
 -- rows that differ
-pub mod Answers
 pub mod Differing
 pub mod Filling
 -- what a comparison says

@@ -3,11 +3,11 @@
 --     way_on                                      what is left is the chunk, and then what is left behind it
 --     begun_wrote                                 the line that beginning wrote
 --     handed_first, handed_last, handed_rows      a call that hands out the line of a side; the last line; lines of rows
---     handed_done                                 nothing, at the end
 --     paired_few                                  fewer than 2^32 rows and lines, with what was taken
 --     left, handed_less                           how many chunks a way has at most; a chunk makes it shorter
 --     comparison_handed, windows_handed           all chunks together are the comparison; that of two windows
 -- Assumes nothing.
+use Rattle.std.specs.Prelude.{Result}
 use Prim.Native.Nat.{ℕ, ◌+◌, ◌-◌, ◌^◌, ◌≤◌, ◌<◌, max}
 use mathlib.Core.Path.{◌≡◌, refl, sym, ap, ◌∙◌}
 use mathlib.Core.Bool.{Bool, true}
@@ -32,7 +32,6 @@ use Rattle.text_column.specs.declared.own.Own.{Own}
 use Rattle.text_column.specs.Own.{own_row, own_at, block_of, Owned}
 use Rattle.text_column.proofs.Owns.{own_few, own_window, owned_first, owned_at}
 use Rattle.text_column.proofs.Rows.{own_reads, opens_shows}
-use Rattle.text_compare.specs.declared.Begun.{Begun}
 use Rattle.text_compare.specs.declared.Compared.{Compared}
 use Rattle.text_compare.specs.declared.way.At.{At}
 use Rattle.text_compare.specs.declared.way.Way.{Way}
@@ -119,11 +118,11 @@ only_long s t (refusal number also) p = refl
 only_long s t (value o) (refusal number also) = refl
 only_long s t (value o) (value p) = refl
 
-pub begun_wrote : {s t line₀ line : List ℕ} {r : Begun} → BegunAs s t (opened_here s) (opened_here t) r line₀ line → Wrote line₀ 0 (only_line (opened_here s) (opened_here t)) line (line_length r)
+pub begun_wrote : {s t line₀ line : List ℕ} {r : Result (Own × Own) ℕ} → BegunAs s t (opened_here s) (opened_here t) r line₀ line → Wrote line₀ 0 (only_line (opened_here s) (opened_here t)) line (line_length r)
 begun_wrote {s} {t} f = record { ends = ap line_length f.answer ∙ only_long s t (opened_here s) (opened_here t) ∙ sym (zero-add _); list = f.line }
 
 module _ {s t line₀ line old new : List ℕ} {end : ℕ} (space : length line₀ ≡ 128) (free : hand_max ≤ length old) where
-  pub handed_first : {r : Begun} {w : Way} → BegunAs s t (opened_here s) (opened_here t) r line₀ line → Wrote old 0 (take (line_length r) line) new end → w ≡ way_of r
+  pub handed_first : {r : Result (Own × Own) ℕ} {w : Way} → BegunAs s t (opened_here s) (opened_here t) r line₀ line → Wrote old 0 (take (line_length r) line) new end → w ≡ way_of r
       → HandedAs (comparison_walk s t) Open end w old new
   handed_first {r} {w} f copied is =
       let first = begun_wrote f in
@@ -156,10 +155,6 @@ handed_rows {s} {t} {old} {new} {a} {own} {its} {took} free stands more one othe
     let next : ◌≡◌ {A = Way} (Rows (record { left = own; right = its; from = record { 0 = from + took.rows }; lines = a.lines + took.lines })) (Rows (at_next a s t (length old))) =
     λ i. Rows (record { left = one i; right = other i; from = record { 0 = from + (here i).rows }; lines = a.lines + (here i).lines }) in
     handed_by (comparison_walk s t) free (rw inside wrote) (omega (arith, shown.0)) (rw inside next) (way_on s t (Rows a) (length old) stands)
-
--- nothing, at the end
-pub handed_done : {s t old : List ℕ} → hand_max ≤ length old → HandedAs (comparison_walk s t) Done 0 Done old old
-handed_done {s} {t} {old} free = handed_by (comparison_walk s t) free (record { ends = refl; list = refl }) (omega arith) refl (way_on s t Done (length old) tt)
 
 rows_few : {s t : List ℕ} (a : At) → Owned s a.left.column a.left.pass → Owned t a.right.column a.right.pass → rows_of a < 2 ^ 32
 rows_few a one other = omega (arith, own_window one.shows, own_few one.shows, own_window other.shows, own_few other.shows)

@@ -1,15 +1,13 @@
 -- The way through a comparison, from chunk to chunk (text/specs/Way): what is still to be written, what is handed out next, and the way
 -- behind it.
 -- Assumes nothing.
-use Rattle.std.specs.Prelude.{ℕ, ◌+◌, ◌-◌, ◌≤◌, max, Bool, true, false, List, [], ◌++◌, ltb, length}
+use Rattle.std.specs.Prelude.{ℕ, ◌+◌, ◌-◌, ◌≤◌, max, Bool, true, false, List, [], ◌++◌, ltb, length, Result, Ok, Err}
 use Rattle.format.specs.Comparing.{differing, comparison}
 use Rattle.format.specs.Listing.{ascii, named_line, row_texts, opened_here}
 use Rattle.format.specs.Outcome.{Outcome, pick}
 use Rattle.text.specs.Way.{Walk}
 use Rattle.text_column.specs.declared.own.Own.{Own}
 use Rattle.text_column.specs.Own.{own_row, own_at, block_of, Owned}
-use Rattle.text_compare.specs.declared.Begun.{Begun}
-use Rattle.text_compare.specs.declared.Begun.TheVariants.{Columns, Refused}
 use Rattle.text_compare.specs.declared.way.At.{At}
 use Rattle.text_compare.specs.declared.way.Way.{Way}
 use Rattle.text_compare.specs.declared.way.Way.TheVariants.{Open, Rows, Done}
@@ -85,9 +83,9 @@ piece s t (Rows a) room =
 piece s t Done room = []
 
 -- the way behind the beginning
-abbrev pub way_of : Begun → Way
-way_of (Columns left right) = Rows (at_first left right)
-way_of (Refused n) = Done
+abbrev pub way_of : Result (Own × Own) ℕ → Way
+way_of (Ok (left, right)) = Rows (at_first left right)
+way_of (Err n) = Done
 
 -- the way behind a chunk
 abbrev pub behind : (s t : List ℕ) → Way → (room : ℕ) → Way

@@ -11,7 +11,7 @@ ghost use Rattle.text_compare.specs.Beginning.{BegunAs, BegunOn};
 ghost use Rattle.text_compare.specs.Chunk.{CountedAs, ComparedAs, EndedAs};
 ghost use Rattle.text_column.specs.Own.{Owned};
 
-use format::{Column, Opened, WindowRow};
+use format::{Column, WindowRow};
 use lines::Done;
 use text::lines::{named_line, refused_line};
 use text_column::opening;
@@ -19,13 +19,6 @@ use text_column::own::Own;
 
 // The longest line of a row.
 const LINE_MAX: usize = 53;
-
-// How a comparison begins: with both columns, left and right, or with the line of the first side that does not open, by its length.
-#[derive(Clone, Copy)]
-pub enum Begun {
-    Columns(Own, Own),
-    Refused(usize),
-}
 
 // What a chunk took: how many rows were looked at, how many lines they have, and how many bytes the lines are.
 #[derive(Clone, Copy)]
@@ -36,26 +29,31 @@ pub struct Compared {
 }
 
 // Goes on with the right side, where the left one opened.
-fn begin_right(column: Column, left: &[u8], right: &[u8], line: &mut [u8; 128]) -> Begun
+fn begin_right(
+    column: Column,
+    left: &[u8],
+    right: &[u8],
+    line: &mut [u8; 128],
+) -> Result<(Own, Own), usize>
     ensures { BegunOn left.now right.now column (opened_here right.now) result line.old line.new }
 {
     let opened = opening::open_plain(right);
-    let Opened::Column(against, _) = opened else {
-        return Begun::Refused(refused_line(b"right refused ", opened, line));
+    let Ok((against, _)) = opened else {
+        return Err(refused_line(b"right refused ", opened, line));
     };
     let own = text_column::own::begin(left, column);
     let its = text_column::own::begin(right, against);
-    Begun::Columns(own, its)
+    Ok((own, its))
 }
 
 // Begins a comparison: opens both sides within a program's limits. Where a side is refused, the left one before the right, the line that says so, the only one then, is written at
 // the start of the lent one.
-pub fn begin(left: &[u8], right: &[u8], line: &mut [u8; 128]) -> Begun
+pub fn begin(left: &[u8], right: &[u8], line: &mut [u8; 128]) -> Result<(Own, Own), usize>
     ensures { BegunAs left.now right.now (opened_here left.now) (opened_here right.now) result line.old line.new }
 {
     let opened = opening::open_plain(left);
-    let Opened::Column(column, _) = opened else {
-        return Begun::Refused(refused_line(b"left refused ", opened, line));
+    let Ok((column, _)) = opened else {
+        return Err(refused_line(b"left refused ", opened, line));
     };
     begin_right(column, left, right, line)
 }
@@ -64,10 +62,7 @@ pub fn begin(left: &[u8], right: &[u8], line: &mut [u8; 128]) -> Begun
 pub fn row_count(left: Column, right: Column) -> u32
     ensures { CountedAs left right result }
 {
-    if left.window.rows < right.window.rows {
-        return right.window.rows;
-    }
-    left.window.rows
+    left.window.rows.max(right.window.rows)
 }
 
 // Internal: asks for two columns, each opened of its bytes and seen through a window that lies in it, and a pass over the blocks of each. Writes the lines of the rows from `from` on,
@@ -91,9 +86,9 @@ pub fn fill_lines(
     let mut rvalues = [0u64; 512];
     let mut lheld = text_column::held::nothing(left.pass);
     let mut rheld = text_column::held::nothing(right.pass);
-    let mut r = from.0;
+    let mut looked = 0;
     let mut done = Done { lines: 0, bytes: 0 };
-    while r < rows {
+    for r in from.0..rows {
         if out.len() - done.bytes < LINE_MAX {
             break;
         }
@@ -107,10 +102,10 @@ pub fn fill_lines(
         let a = text_column::held::answer(column, lbytes, row, lheld, &lvalues);
         let b = text_column::held::answer(against, rbytes, row, rheld, &rvalues);
         done = lines::put_row(out, done, r, a, b);
-        r += 1;
+        looked += 1;
     }
     Compared {
-        rows: r - from.0,
+        rows: looked,
         lines: done.lines,
         bytes: done.bytes,
     }

@@ -1,11 +1,11 @@
 // A comparison's lines: a row's two answers.
 ghost use Rattle.std.specs.Prelude.{◌≡◌, ◌+◌, ◌^◌, ◌≤◌, ◌<◌, length};
 ghost use Rattle.format.specs.Outcome.{Wrote, pick};
-ghost use Rattle.format.specs.Refusals.{row_meaning};
 ghost use Rattle.format.specs.Comparing.{equal_answers, absent, side_text, pair_line};
 ghost use Rattle.text_compare.specs.Chunk.{pair_max, pair_text};
+ghost use Rattle.format.specs.Refusals.{answered_by};
 
-use format::RowRead;
+use format::{Refusal, equal_answers};
 use text::lines::put_answer;
 use text::put::{put_byte, put_decimal, put_text};
 
@@ -16,36 +16,17 @@ pub(crate) struct Done {
     pub bytes: usize,
 }
 
-// Whether two answers are equal: refusals are by their numbers.
-fn are_equal(left: RowRead, right: RowRead) -> bool
-    ensures { result ≡ equal_answers (row_meaning left) (row_meaning right) }
-{
-    match left {
-        RowRead::Value(v) => match right {
-            RowRead::Value(w) => v == w,
-            RowRead::Refused(_) => false,
-        },
-        RowRead::Refused(a) => match right {
-            RowRead::Value(_) => false,
-            RowRead::Refused(b) => a.number() == b.number(),
-        },
-    }
-}
-
 // Whether an answer says that there is no such row.
-fn is_absent(answer: RowRead) -> bool
-    ensures { result ≡ absent (row_meaning answer) }
+fn is_absent(answer: Result<u64, Refusal>) -> bool
+    ensures { result ≡ absent (answered_by answer) }
 {
-    match answer {
-        RowRead::Value(_) => false,
-        RowRead::Refused(refusal) => refusal.number() == 12,
-    }
+    matches!(answer, Err(Refusal::NoSuchRow))
 }
 
 // Internal: asks for room of twenty bytes, and no answer takes more. Writes what a line says of one side, and returns the offset behind it.
-fn put_side(out: &mut [u8], at: usize, answer: RowRead) -> usize
+fn put_side(out: &mut [u8], at: usize, answer: Result<u64, Refusal>) -> usize
     requires { at + 20 ≤ length out.old }
-    ensures wrote { Wrote out.old at (side_text (row_meaning answer)) out.new result }
+    ensures wrote { Wrote out.old at (side_text (answered_by answer)) out.new result }
     ensures upper_bound { result ≤ at + 20 }
 {
     if is_absent(answer) {
@@ -55,9 +36,16 @@ fn put_side(out: &mut [u8], at: usize, answer: RowRead) -> usize
 }
 
 // Internal: asks for room for a longest line. Writes a row's line at an offset, and returns the offset behind it.
-fn put_pair(out: &mut [u8], at: usize, row: u32, left: RowRead, right: RowRead) -> usize
+#[tactic(auto, using(text::proofs::Texts::row_most))]
+fn put_pair(
+    out: &mut [u8],
+    at: usize,
+    row: u32,
+    left: Result<u64, Refusal>,
+    right: Result<u64, Refusal>,
+) -> usize
     requires { at + pair_max ≤ length out.old }
-    ensures wrote { Wrote out.old at (pair_line row (row_meaning left) (row_meaning right)) out.new result }
+    ensures wrote { Wrote out.old at (pair_line row (answered_by left) (answered_by right)) out.new result }
     ensures upper_bound { result ≤ at + pair_max }
 {
     let number = put_decimal(out, at, row as u64);
@@ -69,14 +57,20 @@ fn put_pair(out: &mut [u8], at: usize, row: u32, left: RowRead, right: RowRead) 
 }
 
 // Internal: asks for room for a longest line, and that one more can be counted. A row further: its line, where the answers differ.
-pub(crate) fn put_row(out: &mut [u8], done: Done, row: u32, left: RowRead, right: RowRead) -> Done
+pub(crate) fn put_row(
+    out: &mut [u8],
+    done: Done,
+    row: u32,
+    left: Result<u64, Refusal>,
+    right: Result<u64, Refusal>,
+) -> Done
     requires pair_max_in_bounds { done.bytes + pair_max ≤ length out.old }
     requires lines_bound { done.lines + 1 < 2 ^ 32 }
-    ensures wrote { Wrote out.old done.bytes (pair_text row (row_meaning left) (row_meaning right)) out.new result.bytes }
+    ensures wrote { Wrote out.old done.bytes (pair_text row (answered_by left) (answered_by right)) out.new result.bytes }
     ensures bytes_bound { result.bytes ≤ done.bytes + pair_max }
-    ensures lines_value { result.lines ≡ done.lines + pick (equal_answers (row_meaning left) (row_meaning right)) 0 1 }
+    ensures lines_value { result.lines ≡ done.lines + pick (equal_answers (answered_by left) (answered_by right)) 0 1 }
 {
-    if are_equal(left, right) {
+    if equal_answers(left, right) {
         return done;
     }
     let bytes = put_pair(out, done.bytes, row, left, right);

@@ -5,7 +5,6 @@ ghost use Rattle.text.specs.Way.{HandedAs};
 ghost use Rattle.text_compare.specs.Beginning.{line_length};
 ghost use Rattle.text_compare.specs.Way.{Stands, hand_max, is_more, rows_of, at_first, way_of, comparison_walk};
 
-use crate::Begun;
 use format::WindowRow;
 use text::put::put_text;
 use text_column::own::Own;
@@ -68,22 +67,22 @@ pub fn more(way: Way) -> bool
 }
 
 // The length of the line that a comparison begins with; none where both sides open.
-fn line_of(begun: Begun) -> usize
+fn line_of(begun: Result<(Own, Own), usize>) -> usize
     ensures { result ≡ line_length begun }
 {
     match begun {
-        Begun::Columns(_, _) => 0,
-        Begun::Refused(n) => n,
+        Ok(_) => 0,
+        Err(n) => n,
     }
 }
 
 // The way behind it: before the first row, or at the end where the line is the only one.
-fn way_of(begun: Begun) -> Way
+fn way_of(begun: Result<(Own, Own), usize>) -> Way
     ensures { result ≡ way_of begun }
 {
     match begun {
-        Begun::Columns(left, right) => over(left, right),
-        Begun::Refused(_) => Way::Done,
+        Ok((left, right)) => over(left, right),
+        Err(_) => Way::Done,
     }
 }
 

@@ -3,6 +3,7 @@
 --     placed_past                                   behind the last part a place stays what it is
 --     parts_few                                     there are few enough parts to count
 -- Assumes nothing.
+use Rattle.std.specs.Prelude.{Some, None}
 use Prim.Native.Nat.{ℕ, zero, suc, ◌+◌, ◌^◌, ◌≤◌, ◌<◌}
 use mathlib.Core.Path.{◌≡◌, refl, sym, ap, ◌∙◌}
 use mathlib.Core.List.{List, [], ◌∷◌}
@@ -13,7 +14,6 @@ use Rattle.format.specs.declared.Part.{Part}
 use Rattle.format.specs.declared.PartName.{PartName}
 use Rattle.format.specs.Parts.{names, part_here, part_end, parts_from, parts_of}
 use Rattle.byte_part.specs.declared.Cursor.{Cursor}
-use Rattle.byte_part.specs.declared.Walked.TheVariants.{Part as At, Done}
 use Rattle.byte_part.specs.Walk.{walked}
 use Rattle.byte_part.proofs.Names.{nth_some, names_few}
 use Rattle.byte_part.proofs.Seeking.{Found, walked_part, walked_done}
@@ -67,21 +67,21 @@ module _ (s : List ℕ) (col : Column) where
     pub placed : Placed s col (n + 1) next
     pub inside : n < length (parts_of s col)
 
-  pub placed_more : (n : ℕ) (c : Cursor) (p : Part) (next : Cursor) → walked s col c ≡ At p next → Placed s col n c → Further n p next
+  pub placed_more : (n : ℕ) (c : Cursor) (p : Part) (next : Cursor) → walked s col c ≡ Some (p, next) → Placed s col n c → Further n p next
   placed_more n c p next e placed =
       let first = sym (rest c p next (walked_part s col c p next e)) ∙ placed in
       let later = drop_next n (parts_of s col) p (parts_from s col next.at (drop next.number (names col.codec col.rows))) first in
       record { here = sym first ∙ ap (λ (qs : List Part). p ∷ qs) later.0; placed = later.0; inside = later.1 }
 
   -- nothing is left from a place on
-  nothing_left : (n : ℕ) (c : Cursor) → walked s col c ≡ Done → Placed s col n c → [] ≡ drop n (parts_of s col)
+  nothing_left : (n : ℕ) (c : Cursor) → walked s col c ≡ None → Placed s col n c → [] ≡ drop n (parts_of s col)
   unfolding parts_from
   nothing_left n c e placed = sym (ap (parts_from s col c.at) (walked_done s col c e)) ∙ placed
 
-  pub placed_done : (n : ℕ) (c : Cursor) → walked s col c ≡ Done → Placed s col n c → length (parts_of s col) ≤ n
+  pub placed_done : (n : ℕ) (c : Cursor) → walked s col c ≡ None → Placed s col n c → length (parts_of s col) ≤ n
   placed_done n c e placed = drop_none n (parts_of s col) (nothing_left n c e placed)
 
-  pub placed_past : (n m : ℕ) (c : Cursor) → walked s col c ≡ Done → Placed s col n c → n ≤ m → Placed s col m c
+  pub placed_past : (n m : ℕ) (c : Cursor) → walked s col c ≡ None → Placed s col n c → n ≤ m → Placed s col m c
   placed_past n m c e placed h = placed ∙ sym (nothing_left n c e placed) ∙ drop_later n m (parts_of s col) (nothing_left n c e placed) h
 
   as_many : (at : ℕ) (ns : List PartName) → length (parts_from s col at ns) ≡ length ns

@@ -8,6 +8,7 @@
 --     left, handed_less             how many chunks a way has at most; a chunk makes it shorter
 --     explanation_handed            all chunks together are the explanation
 -- Assumes nothing.
+use Rattle.std.specs.Prelude.{Result}
 use Prim.Native.Nat.{ℕ, ◌+◌, ◌-◌, ◌≤◌, ◌<◌}
 use mathlib.Core.Path.{◌≡◌, refl, sym, ap, ◌∙◌}
 use mathlib.Core.Bool.{Bool, true}
@@ -29,7 +30,6 @@ use Rattle.text.specs.Chunk.{chunk_rows, chunk}
 use Rattle.text.specs.Way.{HandedAs, handed_all}
 use Rattle.text.proofs.Chunks.{texts_split, chunk_most, chunk_some}
 use Rattle.text.proofs.Ways.{line_copied, line_fits, Onward, handed_by, handed_on, all_handed}
-use Rattle.text_explain.specs.declared.Begun.{Begun}
 use Rattle.text_explain.specs.declared.Told.{Told}
 use Rattle.text_explain.specs.declared.way.Way.{Way}
 use Rattle.text_explain.specs.declared.way.Way.TheVariants.{Open, Parts, Done}
@@ -78,10 +78,10 @@ only_long : (o : Outcome Loaded) → line_length (begun o) ≡ length (only_line
 only_long (value o) = refl
 only_long (refusal number also) = refl
 
-pub begun_wrote : (s : List ℕ) {line₀ line : List ℕ} {r : Begun} → BegunAs (opened_here s) r line₀ line → Wrote line₀ 0 (only_line (opened_here s)) line (line_length r)
+pub begun_wrote : (s : List ℕ) {line₀ line : List ℕ} {r : Result Column ℕ} → BegunAs (opened_here s) r line₀ line → Wrote line₀ 0 (only_line (opened_here s)) line (line_length r)
 begun_wrote s f = record { ends = ap line_length f.answer ∙ only_long (opened_here s) ∙ sym (zero-add _); list = f.line }
 
-pub handed_first : (s : List ℕ) {line₀ line old new : List ℕ} {end : ℕ} {r : Begun} {w : Way} → length line₀ ≡ 128 → hand_max ≤ length old
+pub handed_first : (s : List ℕ) {line₀ line old new : List ℕ} {end : ℕ} {r : Result Column ℕ} {w : Way} → length line₀ ≡ 128 → hand_max ≤ length old
     → BegunAs (opened_here s) r line₀ line → Wrote old 0 (take (line_length r) line) new end → w ≡ way_of r → HandedAs (explanation_walk s) Open end w old new
 handed_first s {line₀} {line} {old} space free f copied is =
     let first = begun_wrote s f in

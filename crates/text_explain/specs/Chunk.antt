@@ -1,6 +1,6 @@
 -- How an explanation begins, and its lines in chunks (text/specs/Chunk): what one call writes and answers.
 -- Assumes nothing.
-use Rattle.std.specs.Prelude.{ℕ, ◌≡◌, List, [], length, drop}
+use Rattle.std.specs.Prelude.{ℕ, ◌≡◌, List, [], length, drop, Result, Ok, Err}
 use Rattle.std.proofs.lemmas.List.Edits.{sets}
 use Rattle.io.specs.Counts.{IsPrefixLen}
 use Rattle.format.specs.declared.Column.{Column}
@@ -10,8 +10,6 @@ use Rattle.format.specs.Outcome.{Outcome, Outcome.value, Outcome.refusal}
 use Rattle.format.specs.Parts.{names, parts_from, parts_of}
 use Rattle.text.specs.Chunk.{chunk_rows, chunk}
 use Rattle.byte_part.specs.declared.Cursor.{Cursor}
-use Rattle.text_explain.specs.declared.Begun.{Begun}
-use Rattle.text_explain.specs.declared.Begun.TheVariants.{Column as BegunColumn, Refused}
 use Rattle.text_explain.specs.declared.Told.{Told}
 use Rattle.text_explain.specs.Explained.{part_max, text_at}
 
@@ -23,17 +21,17 @@ only_line (value o) = []
 only_line (refusal number also) = named_line (ascii "refused ") number
 
 -- the answer
-abbrev pub begun : Outcome Loaded → Begun
-begun (value o) = BegunColumn o.column
-begun (refusal number also) = Refused (length (named_line (ascii "refused ") number))
+abbrev pub begun : Outcome Loaded → Result Column ℕ
+begun (value o) = Ok o.column
+begun (refusal number also) = Err (length (named_line (ascii "refused ") number))
 
 -- the line's length in it
-abbrev pub line_length : Begun → ℕ
-line_length (BegunColumn c) = 0
-line_length (Refused n) = n
+abbrev pub line_length : Result Column ℕ → ℕ
+line_length (Ok c) = 0
+line_length (Err n) = n
 
 -- the answer, and the line before and after, whose first bytes the answer counts
-pub record BegunAs (o : Outcome Loaded) (r : Begun) (old new : List ℕ) : Type 0 where
+pub record BegunAs (o : Outcome Loaded) (r : Result Column ℕ) (old new : List ℕ) : Type 0 where
   pub answer : r ≡ begun o
   pub line : new ≡ sets old 0 (only_line o)
   pub counts : IsPrefixLen (line_length r) new

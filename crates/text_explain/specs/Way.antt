@@ -1,15 +1,13 @@
 -- The way through an explanation, from chunk to chunk (text/specs/Way): what is still to be written, what is handed out next, and the way
 -- behind it.
 -- Assumes nothing.
-use Rattle.std.specs.Prelude.{ℕ, ◌+◌, ◌-◌, Bool, true, false, List, [], eqb, length}
+use Rattle.std.specs.Prelude.{ℕ, ◌+◌, ◌-◌, Bool, true, false, List, [], eqb, length, Result, Ok, Err}
 use Rattle.format.specs.declared.Column.{Column}
 use Rattle.format.specs.Listing.{row_texts, opened_here}
 use Rattle.format.specs.Outcome.{pick}
 use Rattle.format.specs.Parts.{parts_of}
 use Rattle.text.specs.Chunk.{chunk_rows, chunk}
 use Rattle.text.specs.Way.{Walk}
-use Rattle.text_explain.specs.declared.Begun.{Begun}
-use Rattle.text_explain.specs.declared.Begun.TheVariants.{Column as BegunColumn, Refused}
 use Rattle.text_explain.specs.declared.way.Way.{Way}
 use Rattle.text_explain.specs.declared.way.Way.TheVariants.{Open, Parts, Done}
 use Rattle.text_explain.specs.Chunk.{only_line, begun}
@@ -38,9 +36,9 @@ piece s (Parts c from) room = chunk (text_at s c) part_max (length (parts_of s c
 piece s Done room = []
 
 -- the way behind the beginning
-abbrev pub way_of : Begun → Way
-way_of (BegunColumn c) = Parts c 0
-way_of (Refused n) = Done
+abbrev pub way_of : Result Column ℕ → Way
+way_of (Ok c) = Parts c 0
+way_of (Err n) = Done
 
 -- the way behind so many parts: its end, where none was left
 abbrev pub way_next : Column → (from taken : ℕ) → Way

@@ -9,19 +9,12 @@ pub mod words;
 ghost use Rattle.format.specs.Listing.{opened_here};
 ghost use Rattle.text_explain.specs.Chunk.{BegunAs, Placed, ToldAs};
 
-use byte_part::{Cursor, Walked};
-use format::{Column, Opened};
-use text::lines::refused_line;
+use byte_part::Cursor;
+use format::Column;
+use text::lines::named_line;
 
 // The longest line of a part.
 const LINE_MAX: usize = 90;
-
-// How an explanation begins: with an opened column, or with the line of its refusal, by its length.
-#[derive(Clone, Copy)]
-pub enum Begun {
-    Column(Column),
-    Refused(usize),
-}
 
 // What a chunk took: how many parts, and how many bytes their lines are.
 #[derive(Clone, Copy)]
@@ -31,14 +24,14 @@ pub struct Told {
 }
 
 // Begins an explanation: opens the column within a program's limits. A refusal's line, the only one then, is written at the start of the lent one.
-pub fn begin(bytes: &[u8], line: &mut [u8; 128]) -> Begun
+#[tactic(auto, using(crate::proofs::Beginnings::begun_refused, crate::proofs::Beginnings::begun_column))]
+pub fn begin(bytes: &[u8], line: &mut [u8; 128]) -> Result<Column, usize>
     ensures { BegunAs (opened_here bytes.now) result line.old line.new }
 {
-    let opened = text_column::opening::open_plain(bytes);
-    let Opened::Column(column, _) = opened else {
-        return Begun::Refused(refused_line(b"refused ", opened, line));
-    };
-    Begun::Column(column)
+    match text_column::opening::open_plain(bytes) {
+        Ok((column, _)) => Ok(column),
+        Err(refusal) => Err(named_line(b"refused ", refusal.number() as u64, line)),
+    }
 }
 
 // The place of a part by its number; behind the last part where there are fewer.
@@ -46,15 +39,11 @@ fn place_of(column: Column, bytes: &[u8], number: usize) -> Cursor
     ensures { Placed bytes.now column number result }
 {
     let mut place = Cursor { number: 0, at: 0 };
-    let mut k = 0;
-    while k < number {
-        match byte_part::next_part(column, bytes, place) {
-            Walked::Done => return place,
-            Walked::Part(_, next) => {
-                place = next;
-                k += 1;
-            }
-        }
+    for _ in 0..number {
+        let Some((_, next)) = byte_part::next_part(column, bytes, place) else {
+            return place;
+        };
+        place = next;
     }
     place
 }
@@ -65,20 +54,15 @@ pub fn fill_lines(column: Column, bytes: &[u8], from: usize, out: &mut [u8]) -> 
     ensures { ToldAs column bytes.now from result out.old out.new }
 {
     let mut place = place_of(column, bytes, from);
-    let mut p = from;
-    let mut at = 0;
-    while LINE_MAX <= out.len() - at {
-        match byte_part::next_part(column, bytes, place) {
-            Walked::Done => break,
-            Walked::Part(part, next) => {
-                at = lines::put_part(out, at, column, part);
-                place = next;
-                p += 1;
-            }
-        }
+    let mut told = Told { parts: 0, bytes: 0 };
+    // No range: that no part is left shows only where the next one is asked for.
+    while LINE_MAX <= out.len() - told.bytes {
+        let Some((part, next)) = byte_part::next_part(column, bytes, place) else {
+            break;
+        };
+        told.bytes = lines::put_part(out, told.bytes, column, part);
+        told.parts += 1;
+        place = next;
     }
-    Told {
-        parts: p - from,
-        bytes: at,
-    }
+    told
 }

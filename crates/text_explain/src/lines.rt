@@ -32,12 +32,9 @@ fn said_of(shape: Shape, value: u64, area: Said) -> Said
     ensures { result ≡ said_in shape value area }
 {
     match shape {
-        Shape::Varint => Said::Number(value),
-        Shape::Byte => Said::Number(value),
-        Shape::Four => Said::Number(value),
+        Shape::Varint | Shape::Byte | Shape::Four => Said::Number(value),
         Shape::Area => area,
-        Shape::Behind => Said::Nothing,
-        Shape::Spare => Said::Nothing,
+        Shape::Behind | Shape::Spare => Said::Nothing,
     }
 }
 

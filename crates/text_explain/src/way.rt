@@ -5,7 +5,6 @@ ghost use Rattle.text.specs.Way.{HandedAs};
 ghost use Rattle.text_explain.specs.Chunk.{line_length};
 ghost use Rattle.text_explain.specs.Way.{hand_max, is_more, way_of, explanation_walk};
 
-use crate::Begun;
 use format::Column;
 use text::put::put_text;
 
@@ -39,29 +38,28 @@ pub fn more(way: Way) -> bool
     ensures { result ≡ is_more way }
 {
     match way {
-        Way::Open => true,
-        Way::Parts(_, _) => true,
+        Way::Open | Way::Parts(_, _) => true,
         Way::Done => false,
     }
 }
 
 // The length of the line that an explanation begins with; none where the column opens.
-fn line_of(begun: Begun) -> usize
+fn line_of(begun: Result<Column, usize>) -> usize
     ensures { result ≡ line_length begun }
 {
     match begun {
-        Begun::Column(_) => 0,
-        Begun::Refused(n) => n,
+        Ok(_) => 0,
+        Err(n) => n,
     }
 }
 
 // The way behind it: before the first part, or at the end where the line is the only one.
-fn way_of(begun: Begun) -> Way
+fn way_of(begun: Result<Column, usize>) -> Way
     ensures { result ≡ way_of begun }
 {
     match begun {
-        Begun::Column(column) => Way::Parts(column, 0),
-        Begun::Refused(_) => Way::Done,
+        Ok(column) => Way::Parts(column, 0),
+        Err(_) => Way::Done,
     }
 }
 
@@ -100,6 +98,7 @@ fn hand_parts(column: Column, bytes: &[u8], from: usize, out: &mut [u8]) -> Hand
 
 // Writes the next chunk at the start of a buffer; nothing, where that has no room for the longest line. What a way has left is the chunk
 // and then what the way behind it has left.
+#[tactic(auto, using(text::proofs::Ways::handed_nothing, crate::proofs::Ways::handed_done))]
 pub fn fill(way: Way, bytes: &[u8], out: &mut [u8]) -> Handed
     ensures { HandedAs (explanation_walk bytes.now) way result.bytes result.way out.old out.new }
 {

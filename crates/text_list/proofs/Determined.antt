@@ -1,18 +1,19 @@
 -- What the listing's calls promise determines what they answer and what every lent entry holds afterwards: two results that it allows coincide.
 --     begin_determined, fill_lines_determined, end_line_determined
 -- Assumes nothing.
+use Rattle.text_column.specs.declared.own.Own.{Own}
+use Rattle.std.specs.Prelude.{Result}
 use Prim.Native.Nat.{ℕ}
 use mathlib.Core.Path.{◌≡◌, sym, ◌∙◌}
 use mathlib.Core.List.{List}
 use Rattle.format.specs.declared.Column.{Column}
 use Rattle.format.specs.Listing.{opened_here}
 use Rattle.text.specs.declared.Filled.{Filled}
-use Rattle.text_list.specs.declared.Begun.{Begun}
 use Rattle.text_list.specs.Beginning.{BegunAs}
 use Rattle.text_list.specs.Chunk.{FilledAs, EndedAs}
 
 -- two answers of `begin`, and what the lent line holds afterwards
-pub begin_determined : (s line : List ℕ) (a b : Begun) (new new' : List ℕ)
+pub begin_determined : (s line : List ℕ) (a b : Result (Own × ℕ) (ℕ × ℕ)) (new new' : List ℕ)
     → BegunAs s (opened_here s) a line new → BegunAs s (opened_here s) b line new' → (a ≡ b) × (new ≡ new')
 begin_determined s line a b new new' p q = (p.answer ∙ sym q.answer, p.line ∙ sym q.line)
 

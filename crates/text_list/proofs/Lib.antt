@@ -1,7 +1,5 @@
 -- Laws and theorems; the head of each file lists what it offers.
 
--- how a listing begins
-pub mod Beginnings
 -- a row's line
 pub mod RowLines
 -- the way from chunk to chunk

@@ -2,11 +2,11 @@
 --     way_on                                      what is left is the chunk, and then what is left behind it
 --     begun_wrote                                 the line that beginning wrote
 --     handed_first, handed_last, handed_rows      a call that hands out the first line; the last line; lines of rows
---     handed_done                                 nothing, at the end
 --     took_few                                    no more rows than are left
 --     left, handed_less                           how many chunks a way has at most; a chunk makes it shorter
 --     listing_handed                              all chunks together are the listing
 -- Assumes nothing.
+use Rattle.std.specs.Prelude.{Result}
 use Prim.Native.Nat.{ℕ, ◌+◌, ◌-◌, ◌≤◌, ◌<◌}
 use mathlib.Core.Path.{◌≡◌, refl, sym, ap, ◌∙◌, subst}
 use mathlib.Core.Bool.{Bool, true}
@@ -33,7 +33,6 @@ use Rattle.text_column.specs.declared.own.Own.{Own}
 use Rattle.text_column.specs.Own.{own_row, own_at, block_of}
 use Rattle.text_column.proofs.Owns.{owned_first, owned_at}
 use Rattle.text_column.proofs.Rows.{own_reads, opens_shows}
-use Rattle.text_list.specs.declared.Begun.{Begun}
 use Rattle.text_list.specs.declared.way.Way.{Way}
 use Rattle.text_list.specs.declared.way.Way.TheVariants.{Open, Rows, Done}
 use Rattle.text_list.specs.Beginning.{column_line, first_line, begun, line_length, BegunAs}
@@ -88,11 +87,11 @@ first_long : (s : List ℕ) (o : Outcome Loaded) → line_length (begun s o) ≡
 first_long s (value o) = refl
 first_long s (refusal number also) = refl
 
-pub begun_wrote : {s line₀ line : List ℕ} {r : Begun} → BegunAs s (opened_here s) r line₀ line → Wrote line₀ 0 (first_line (opened_here s)) line (line_length r)
+pub begun_wrote : {s line₀ line : List ℕ} {r : Result (Own × ℕ) (ℕ × ℕ)} → BegunAs s (opened_here s) r line₀ line → Wrote line₀ 0 (first_line (opened_here s)) line (line_length r)
 begun_wrote {s} f = record { ends = ap line_length f.answer ∙ first_long s (opened_here s) ∙ sym (zero-add _); list = f.line }
 
 module _ {s line₀ line old new : List ℕ} {end : ℕ} (space : length line₀ ≡ 128) (free : hand_max ≤ length old) where
-  pub handed_first : {r : Begun} {w : Way} → BegunAs s (opened_here s) r line₀ line → Wrote old 0 (take (line_length r) line) new end → w ≡ way_of r
+  pub handed_first : {r : Result (Own × ℕ) (ℕ × ℕ)} {w : Way} → BegunAs s (opened_here s) r line₀ line → Wrote old 0 (take (line_length r) line) new end → w ≡ way_of r
       → HandedAs (listing_walk s) Open end w old new
   handed_first {r} {w} f copied is =
       let first = begun_wrote f in
@@ -128,10 +127,6 @@ handed_rows {s} {old} {new} {own} {at} {from} {took} free stands more reached an
     let next : ◌≡◌ {A = Way} (Rows at (record { 0 = from.0 + took.rows })) (Rows (own_at s col (block_of col from.0)) (record { 0 = from.0 + chunk_rows text line_max col.rows (length old) from.0 })) =
     λ i. Rows (reached i) (record { 0 = from.0 + counted i }) in
     handed_by (listing_walk s) free (rw inside wrote) (omega (arith, shown.0)) (rw inside next) (way_on s (Rows own from) (length old) stands)
-
--- nothing, at the end
-pub handed_done : {s old : List ℕ} → hand_max ≤ length old → HandedAs (listing_walk s) Done 0 Done old old
-handed_done {s} {old} free = handed_by (listing_walk s) free (record { ends = refl; list = refl }) (omega arith) refl (way_on s Done (length old) tt)
 
 -- no more rows than are left
 pub took_few : (s : List ℕ) (own : Own) {at : Own} (k room : ℕ) {from : ℕ} {took : Filled} → at ≡ own_at s own.column k

@@ -1,14 +1,13 @@
 -- The way through a listing, from chunk to chunk (text/specs/Way): what is still to be written, what is handed out next, and the way behind
 -- it.
 -- Assumes nothing.
-use Rattle.std.specs.Prelude.{ℕ, ◌+◌, ◌-◌, ◌≤◌, Bool, true, false, List, [], ◌++◌, ltb}
+use Rattle.text_column.specs.declared.own.Own.{Own}
+use Rattle.std.specs.Prelude.{ℕ, ◌+◌, ◌-◌, ◌≤◌, Bool, true, false, List, [], ◌++◌, ltb, Result, Ok, Err}
 use Rattle.format.specs.Listing.{ascii, named_line, row_line, row_lines, opened_here, listing}
 use Rattle.format.specs.Outcome.{pick}
 use Rattle.text.specs.Chunk.{chunk_rows, chunk}
 use Rattle.text.specs.Way.{Walk}
 use Rattle.text_column.specs.Own.{own_row, own_at, block_of, Owned}
-use Rattle.text_list.specs.declared.Begun.{Begun}
-use Rattle.text_list.specs.declared.Begun.TheVariants.{Column as BegunColumn, Refused}
 use Rattle.text_list.specs.declared.way.Way.{Way}
 use Rattle.text_list.specs.declared.way.Way.TheVariants.{Open, Rows, Done}
 use Rattle.text_list.specs.Beginning.{first_line, begun}
@@ -48,9 +47,9 @@ piece s (Rows own from) room =
 piece s Done room = []
 
 -- the way behind the first line
-abbrev pub way_of : Begun → Way
-way_of (BegunColumn own n) = Rows own (record { 0 = 0 })
-way_of (Refused number n) = Done
+abbrev pub way_of : Result (Own × ℕ) (ℕ × ℕ) → Way
+way_of (Ok (own, n)) = Rows own (record { 0 = 0 })
+way_of (Err (number, n)) = Done
 
 -- the way behind a chunk
 abbrev pub behind : (s : List ℕ) → Way → (room : ℕ) → Way

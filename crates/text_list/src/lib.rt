@@ -10,32 +10,28 @@ ghost use Rattle.text_list.specs.Beginning.{BegunAs};
 ghost use Rattle.text_list.specs.Chunk.{FilledAs, EndedAs};
 ghost use Rattle.text_column.specs.Own.{Owned};
 
-use format::{Column, Opened, WindowRow};
+use format::{Column, WindowRow};
 use text::Filled;
-use text::lines::{named_line, refusal_number};
+use text::lines::named_line;
 use text_column::own::Own;
 
 // The longest line of a row.
 const LINE_MAX: usize = 32;
 
-// How a listing begins: with an opened column, or with a refusal, by its number; and the length of the line that says so.
-#[derive(Clone, Copy)]
-pub enum Begun {
-    Column(Own, usize),
-    Refused(u8, usize),
-}
-
 // Begins a listing: opens the column, and writes the first line at the start of the lent one. A refusal's line is the only one.
-pub fn begin(bytes: &[u8], line: &mut [u8; 128]) -> Begun
+pub fn begin(bytes: &[u8], line: &mut [u8; 128]) -> Result<(Own, usize), (u8, usize)>
     ensures { BegunAs bytes.now (opened_here bytes.now) result line.old line.new }
 {
-    let opened = text_column::opening::open_plain(bytes);
-    let Opened::Column(column, _) = opened else {
-        let number = refusal_number(opened);
-        return Begun::Refused(number, lines::refused_line(number, line));
-    };
-    let own = text_column::own::begin(bytes, column);
-    Begun::Column(own, lines::column_line(column, line))
+    match text_column::opening::open_plain(bytes) {
+        Ok((column, _)) => {
+            let own = text_column::own::begin(bytes, column);
+            Ok((own, lines::column_line(column, line)))
+        }
+        Err(refusal) => {
+            let number = refusal.number();
+            Err((number, lines::refused_line(number, line)))
+        }
+    }
 }
 
 // Internal: asks for a column that was opened of these bytes, seen through a window that lies in it, and a pass over its blocks. Writes the lines of the rows from `from` on at the start of a buffer, while a longest
@@ -47,10 +43,9 @@ pub fn fill_lines(own: Own, bytes: &[u8], from: WindowRow, out: &mut [u8]) -> Fi
     let column = own.column;
     let mut values = [0u64; 512];
     let mut held = text_column::held::nothing(own.pass);
-    let mut r = from.0;
-    let mut at = 0;
-    while r < column.rows {
-        if out.len() - at < LINE_MAX {
+    let mut filled = Filled { rows: 0, bytes: 0 };
+    for r in from.0..column.rows {
+        if out.len() - filled.bytes < LINE_MAX {
             break;
         }
         let row = WindowRow(r);
@@ -58,13 +53,10 @@ pub fn fill_lines(own: Own, bytes: &[u8], from: WindowRow, out: &mut [u8]) -> Fi
             held = text_column::held::hold(column, bytes, row, held, &mut values);
         }
         let answer = text_column::held::answer(column, bytes, row, held, &values);
-        at = lines::put_row(out, at, r, answer);
-        r += 1;
+        filled.bytes = lines::put_row(out, filled.bytes, r, answer);
+        filled.rows += 1;
     }
-    Filled {
-        rows: r - from.0,
-        bytes: at,
-    }
+    filled
 }
 
 // Writes the last line at the start of the lent one, and returns its length. Refused rows count.

@@ -2,12 +2,12 @@
 ghost use Rattle.std.specs.Prelude.{◌≡◌, ℕ, ◌+◌, ◌*◌, ◌^◌, ◌≤◌, ◌<◌, ◌++◌, length};
 ghost use Rattle.io.specs.Counts.{IsPrefixLen};
 ghost use Rattle.format.specs.Outcome.{Wrote};
-ghost use Rattle.format.specs.Refusals.{row_meaning};
 ghost use Rattle.format.specs.Listing.{ascii, named, named_line, row_line, code_of};
 ghost use Rattle.text_list.specs.Beginning.{column_line};
 ghost use Rattle.text_list.specs.Chunk.{line_max};
+ghost use Rattle.format.specs.Refusals.{answered_by};
 
-use format::{Codec, Column, RowRead};
+use format::{Codec, Column, Refusal};
 use text::lines::{named_line, put_answer};
 use text::put::{put_byte, put_decimal, put_named};
 
@@ -23,6 +23,7 @@ fn code_of(codec: Codec) -> u8
 }
 
 // Internal: asks for room of seventy-six bytes, and they take no more. Writes the bounds in a first line and its line feed at an offset, and returns the line's length.
+#[tactic(auto, using(text::proofs::Texts::named_most, text::proofs::Texts::counts))]
 fn put_bounds(line: &mut [u8; 128], at: usize, min: u64, max: u64, gcd: u64) -> usize
     requires { at + 76 ≤ 128 }
     ensures wrote { Wrote line.old at (named (ascii " min ") min ++ (named (ascii " max ") max ++ (named (ascii " gcd ") gcd ++ ascii "\n"))) line.new result }
@@ -35,6 +36,7 @@ fn put_bounds(line: &mut [u8; 128], at: usize, min: u64, max: u64, gcd: u64) -> 
 }
 
 // Internal: asks for a maximum of 64 bits. Writes the first line of an opened column at the start of a line, and returns its length.
+#[tactic(auto, using(text::proofs::Texts::named_most, text::proofs::Texts::counts))]
 pub(crate) fn column_line(column: Column, line: &mut [u8; 128]) -> usize
     requires { column.minimum + column.gcd * column.count < 2 ^ 64 }
     ensures wrote { Wrote line.old 0 (column_line column) line.new result }
@@ -56,9 +58,10 @@ pub(crate) fn refused_line(number: u8, out: &mut [u8; 128]) -> usize
 }
 
 // Internal: asks for room for a longest line. Writes a row's line at an offset, and returns the offset behind it.
-pub(crate) fn put_row(out: &mut [u8], at: usize, row: u32, answer: RowRead) -> usize
+#[tactic(auto, using(text::proofs::Texts::row_most))]
+pub(crate) fn put_row(out: &mut [u8], at: usize, row: u32, answer: Result<u64, Refusal>) -> usize
     requires { at + line_max ≤ length out.old }
-    ensures wrote { Wrote out.old at (row_line (λ (_ : ℕ). row_meaning answer) row) out.new result }
+    ensures wrote { Wrote out.old at (row_line (λ (_ : ℕ). answered_by answer) row) out.new result }
     ensures upper_bound { result ≤ at + line_max }
 {
     let number = put_decimal(out, at, row as u64);

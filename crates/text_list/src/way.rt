@@ -5,7 +5,6 @@ ghost use Rattle.text_list.specs.Beginning.{line_length};
 ghost use Rattle.text.specs.Way.{HandedAs};
 ghost use Rattle.text_list.specs.Way.{Stands, hand_max, is_more, way_of, listing_walk};
 
-use crate::Begun;
 use format::WindowRow;
 use text::put::put_text;
 use text_column::own::Own;
@@ -47,22 +46,21 @@ pub fn more(way: Way) -> bool
 }
 
 // The length of the line that a listing begins with.
-fn line_of(begun: Begun) -> usize
+fn line_of(begun: Result<(Own, usize), (u8, usize)>) -> usize
     ensures { result ≡ line_length begun }
 {
     match begun {
-        Begun::Column(_, n) => n,
-        Begun::Refused(_, n) => n,
+        Ok((_, n)) | Err((_, n)) => n,
     }
 }
 
 // The way behind it: before the first row, or at the end where the line is the only one.
-fn way_of(begun: Begun) -> Way
+fn way_of(begun: Result<(Own, usize), (u8, usize)>) -> Way
     ensures { result ≡ way_of begun }
 {
     match begun {
-        Begun::Column(own, _) => Way::Rows(own, WindowRow(0)),
-        Begun::Refused(_, _) => Way::Done,
+        Ok((own, _)) => Way::Rows(own, WindowRow(0)),
+        Err(_) => Way::Done,
     }
 }
 

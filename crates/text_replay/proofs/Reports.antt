@@ -3,21 +3,19 @@
 --     reported_long        a recording of too many bytes
 --     reported_run         a replay
 -- Assumes nothing.
+use Rattle.format.specs.declared.Report.{Report}
+use Rattle.format.specs.Refusals.{answered_by}
+use Rattle.std.specs.Prelude.{Option, Result, Ok, Err}
 use Prim.Native.Nat.{ℕ, ◌≤◌, ◌<◌}
 use mathlib.Core.Path.{◌≡◌, refl, sym, ap, ◌∙◌, subst}
 use mathlib.Core.List.{List}
 use borrow.Author.Tests.{le-leb, lt-leb}
 use lib.ListN.{length}
 use Rattle.format.specs.declared.Column.{Column}
-use Rattle.format.specs.declared.Opened.{Opened}
-use Rattle.format.specs.declared.Opened.TheVariants.{Column as OpenedColumn, Refused}
 use Rattle.format.specs.declared.Refusal.{Refusal}
-use Rattle.format.specs.declared.Replayed.{Replayed}
-use Rattle.format.specs.declared.Spelling.{Spelling}
 use Rattle.format.specs.Listing.{ascii, named_line, opened_here}
 use Rattle.format.specs.Opening.{Loaded, column_in}
 use Rattle.format.specs.Outcome.{Outcome, Wrote}
-use Rattle.format.specs.Refusals.{opened_meaning, replayed_meaning}
 use Rattle.format.specs.Replaying.{replayed}
 use Rattle.text.specs.Refused.{refused_by}
 use Rattle.text_column.specs.Own.{own_row}
@@ -39,12 +37,12 @@ by_line : (s recording : List ℕ) {line : List ℕ} {n : ℕ} {old new : List �
 unfolding report
 by_line s recording {line} {n} {old} {new} is wrote = subst (λ (l : List ℕ). Wrote old 0 l new n) is wrote
 
-module _ (s recording : List ℕ) {r : Opened} (answer : opened_meaning r ≡ column_in (opened_here s)) where
-  pub reported_column : {x : Refusal} {n : ℕ} {old new : List ℕ} → r ≡ Refused x → Wrote old 0 (named_line (ascii "column refused ") (refused_by (opened_meaning r))) new n
+module _ (s recording : List ℕ) {r : Result (Column × Option ℕ) Refusal} (answer : answered_by r ≡ column_in (opened_here s)) where
+  pub reported_column : {x : Refusal} {n : ℕ} {old new : List ℕ} → r ≡ Err x → Wrote old 0 (named_line (ascii "column refused ") (refused_by (answered_by r))) new n
       → Wrote old 0 (report s recording) new n
   reported_column is = by_line s recording (sym (ap (λ (o : Outcome Loaded). report_or o s recording) (found_refusal s answer is).1))
 
-  module _ {c : Column} {p : Spelling} (is : r ≡ OpenedColumn c p) where
+  module _ {c : Column} {p : Option ℕ} (is : r ≡ Ok (c, p)) where
     -- the line of the column that was opened
     opened_line : report_or (opened_here s) s recording ≡ report_line (replayed_here (own_row c s) c.window.rows recording)
     opened_line =
@@ -57,6 +55,6 @@ module _ (s recording : List ℕ) {r : Opened} (answer : opened_meaning r ≡ co
     pub reported_long : {n : ℕ} {old new : List ℕ} → 262144 < length recording → Wrote old 0 (named_line (ascii "recording refused ") 16) new n → Wrote old 0 (report s recording) new n
     reported_long long = by_line s recording (replayed_long (own_row c s) c.window.rows recording long ∙ sym opened_line)
 
-    pub reported_run : (a : Replayed) {n : ℕ} {old new : List ℕ} → length recording ≤ 262144 → replayed_meaning a ≡ replayed (own_row c s) c.window.rows recording
-        → Wrote old 0 (report_line (replayed_meaning a)) new n → Wrote old 0 (report s recording) new n
+    pub reported_run : (a : Result Report Refusal) {n : ℕ} {old new : List ℕ} → length recording ≤ 262144 → answered_by a ≡ replayed (own_row c s) c.window.rows recording
+        → Wrote old 0 (report_line (answered_by a)) new n → Wrote old 0 (report s recording) new n
     reported_run a short means = by_line s recording (ap report_line (means ∙ replayed_short (own_row c s) c.window.rows recording short) ∙ sym opened_line)

@@ -1,18 +1,18 @@
 -- What the program says of a replay: one line.
 -- Assumes nothing.
-use Rattle.std.specs.Prelude.{ℕ, List, [], ◌++◌, leb, length}
-use Rattle.std.proofs.Math.Option.{Option, none, some}
+use Rattle.format.specs.declared.Report.{Report}
+use Rattle.std.specs.Prelude.{ℕ, List, [], ◌++◌, leb, length, Option, Some, None}
 use Rattle.io.specs.Counts.{IsPrefixLen}
 use Rattle.format.specs.Listing.{ascii, named, named_line, opened_here}
 use Rattle.format.specs.Opening.{Loaded}
 use Rattle.format.specs.Outcome.{Outcome, Outcome.value, Outcome.refusal, ◌>>◌, demand, Wrote}
 use Rattle.format.specs.Reading.{row_at}
-use Rattle.format.specs.Replaying.{Report, replayed}
+use Rattle.format.specs.Replaying.{replayed}
 
 -- the line of the first record that differs, or of none, and how many were run
 abbrev pub run_line : (differing : Option ℕ) (run : ℕ) → List ℕ
-run_line none run = named_line (ascii "agree ") run
-run_line (some k) run = named (ascii "differ ") k ++ named_line (ascii " run ") run
+run_line None run = named_line (ascii "agree ") run
+run_line (Some k) run = named (ascii "differ ") k ++ named_line (ascii " run ") run
 
 -- the line of a replay
 abbrev pub report_line : Outcome Report → List ℕ

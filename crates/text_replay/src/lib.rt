@@ -7,7 +7,6 @@ mod running;
 
 ghost use Rattle.text_replay.specs.Report.{ReportedAs};
 
-use format::Opened;
 use text::lines::{named_line, refused_line};
 
 // The most bytes of a recording that a program takes.
@@ -19,7 +18,7 @@ pub fn report(bytes: &[u8], recording: &[u8], line: &mut [u8; 128]) -> usize
     ensures { ReportedAs bytes.now recording.now result line.old line.new }
 {
     let opened = text_column::opening::open_plain(bytes);
-    let Opened::Column(column, _) = opened else {
+    let Ok((column, _)) = opened else {
         return refused_line(b"column refused ", opened, line);
     };
     if RECORDING_MAX < recording.len() {

@@ -1,16 +1,16 @@
 // A replay over a column that a program opened, by a pass over the blocks in its own footer: no table is needed.
 ghost use Rattle.std.specs.Prelude.{◌≡◌};
-ghost use Rattle.format.specs.Refusals.{replayed_meaning};
 ghost use Rattle.format.specs.Replaying.{replayed};
 ghost use Rattle.text_column.specs.Own.{own_row, Opens};
+ghost use Rattle.format.specs.Refusals.{answered_by};
 
-use format::{Column, Replayed, WindowRow};
+use format::{Column, Refusal, Report, WindowRow};
 
 // Internal: asks for a column that was opened of these bytes. Runs the recorded lookups one after another, up to the first whose rows are not the recorded ones. The pass goes
 // on with each lookup, and back to the start for one that begins before it.
-pub(crate) fn replay(column: Column, bytes: &[u8], recording: &[u8]) -> Replayed
+pub(crate) fn replay(column: Column, bytes: &[u8], recording: &[u8]) -> Result<Report, Refusal>
     requires { Opens bytes.now column }
-    ensures { replayed_meaning result ≡ replayed (own_row column bytes.now) column.window.rows recording.now }
+    ensures { answered_by result ≡ replayed (own_row column bytes.now) column.window.rows recording.now }
 {
     let blocks = text_column::own::block_count(column);
     let mut own = text_column::own::begin(bytes, column);

@@ -26,13 +26,8 @@ fn read_full(from: &mut impl Read, bytes: &mut [u8]) -> usize
     let mut done = 0;
     while done < bytes.len() {
         match from.read(&mut bytes[done..]) {
-            Ok(n) => {
-                if n == 0 {
-                    break;
-                }
-                done += n;
-            }
-            Err(_) => break,
+            Ok(0) | Err(_) => break,
+            Ok(n) => done += n,
         }
     }
     done
@@ -62,21 +57,18 @@ pub fn read_input(rt: &impl Input, bytes: &mut [u8]) -> usize
 pub fn read_argument(rt: &impl Env, argument: usize, bytes: &mut [u8]) -> usize
     ensures { IsPrefixLen result bytes.new }
 {
-    match rt.arg(argument, bytes) {
-        Ok(n) => n,
-        Err(_) => 0,
-    }
+    rt.arg(argument, bytes).unwrap_or(0)
 }
 
 // Reads the file that is so named.
 fn read_file(rt: &impl Files, name: &[u8], bytes: &mut [u8]) -> usize
     ensures { IsPrefixLen result bytes.new }
 {
-    match str::from_utf8(name) {
-        Ok(path) => match fs::open(rt, path) {
-            Ok(mut file) => read_whole(&mut file, bytes),
-            Err(_) => 0,
-        },
+    let Ok(path) = str::from_utf8(name) else {
+        return 0;
+    };
+    match fs::open(rt, path) {
+        Ok(mut file) => read_whole(&mut file, bytes),
         Err(_) => 0,
     }
 }

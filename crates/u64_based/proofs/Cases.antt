@@ -2,14 +2,14 @@
 --     Case, columns         values, codecs, and the bytes that they are written as
 --     columns_written       whatever the contract allows, with an output that has room, is those bytes
 -- Assumes nothing.
+use Rattle.format.specs.declared.Refusal.{Refusal}
+use Rattle.std.specs.Prelude.{Result, Ok}
 use Prim.Native.Nat.{ℕ, ◌≤◌}
 use mathlib.Core.Path.{◌≡◌, refl}
 use mathlib.Core.List.{List, [], ◌∷◌, map}
 use borrow.Author.Tests.{le-leb}
 use lib.ListN.{length}
 use lib.Seq.{sets}
-use Rattle.format.specs.declared.Stored.{Stored}
-use Rattle.format.specs.declared.Stored.TheVariants.{Entries}
 use Rattle.format.specs.Outcome.{Outcome}
 use Rattle.format.specs.Varint.{spell, spell_in}
 use Rattle.format.specs.Packing.{width, bit_length, bits_in, packed, bytes_of, rows_bits, bits_of, num_of, num_bytes}
@@ -18,7 +18,7 @@ use Rattle.format.specs.Line.{line_at, trained, rising, height, slope_of, nearer
 use Rattle.format.specs.Bodies.{body, bitpacked, blockwise, blocks, blocks_in, block_area, block_entry, block_width, block_residuals, joined, footer}
 use Rattle.format.specs.Saving.{saving, exponent_of, last_reached, power_bounds, reaches, in_f32, nearest}
 use Rattle.format.specs.Writing.{written, known, chosen, size_of, block_size, block_sizes}
-use Rattle.format.proofs.Answers.{stored_injective}
+use Rattle.format.proofs.Answers.{answered_injective}
 use Rattle.write_codec.specs.Writing.{lent}
 use Rattle.format.specs.Calls.{StoredAs}
 
@@ -30,8 +30,8 @@ pub record Case : Type 0 where
 -- whatever the contract allows is the case's bytes
 abbrev pub Writes : Case → Type 0
 Writes c =
-    (before after : List ℕ) (r : Stored) → length c.bytes ≤ length before → StoredAs (written c.values c.codecs (length before)) r before after
-    → (r ≡ Entries (length c.bytes)) × (after ≡ sets before 0 c.bytes)
+    (before after : List ℕ) (r : Result ℕ Refusal) → length c.bytes ≤ length before → StoredAs (written c.values c.codecs (length before)) r before after
+    → (r ≡ Ok (length c.bytes)) × (after ≡ sets before 0 c.bytes)
 
 abbrev pub All : List Case → Type 0
 All [] = Unit {0}
@@ -64,7 +64,7 @@ by_definition : (c : Case) → ((room : ℕ) → written c.values c.codecs room 
 by_definition c is before after r room left =
     let met = le-leb (length c.bytes) (length before) room in
     let told = rw (is (length before), met) at left in
-    (stored_injective r (Entries (length c.bytes)) told.answer, told.list)
+    (answered_injective r (Ok (length c.bytes)) told.answer, told.list)
 
 -- what the definition gives for a case in some room, and what it should
 abbrev given : (room : ℕ) → Case → Outcome (List ℕ)

@@ -3,6 +3,7 @@
 --     view_opens                           unless it is 20, an answer is opening's, with whatever table
 --     view_rows                            every row answers as it does with whatever table
 -- Assumes nothing.
+use Rattle.std.specs.Prelude.{Option}
 use Prim.Native.Nat.{ℕ, zero, suc, ◌+◌, ◌-◌, ◌*◌, ◌^◌}
 use mathlib.Core.Path.{◌≡◌, refl, sym, ap, ◌∙◌, subst}
 use mathlib.Core.Bool.{Bool, true, false}
@@ -11,14 +12,12 @@ use mathlib.Core.List.{List, [], ◌∷◌}
 use native.Mathlib.Omega.{arith}
 use lib.Dec.{leb, ltb, eqb}
 use lib.ListN.{length, take, drop, get_or}
-use borrow.Author.Tests.{leb-true, le-leb, ne_eqb}
+use borrow.Author.Tests.{leb-true, le-leb}
 use Rattle.format.specs.declared.Block.{Block}
-use Rattle.format.specs.declared.Codec.{Codec}
 use Rattle.format.specs.declared.Column.{Column}
 use Rattle.format.specs.declared.Field.{Field}
 use Rattle.format.specs.declared.Fields.{Fields}
 use Rattle.format.specs.declared.Head.{Head}
-use Rattle.format.specs.declared.Spelling.{Spelling}
 use Rattle.format.specs.Outcome.{Outcome, Outcome.value, Outcome.refusal, ◌>>=◌, ◌>>◌, demand}
 use Rattle.format.specs.Varint.{Scan, Scan.none, Scan.found, scan, taken, read_varint}
 use Rattle.format.specs.Packing.{legal, bytes_num}
@@ -33,7 +32,7 @@ use Rattle.format.proofs.Openings.{bitpacked_of, linear_of, blockwise_of}
 use Rattle.open_sheet.specs.Faults.{AllWithin}
 use Rattle.open_sheet.proofs.SheetNumbers.{accepted}
 use Rattle.open_column.proofs.Opens.{opened-within}
-use Rattle.view.specs.Held.{unless_blockwise, for_view}
+use Rattle.view.specs.Held.{for_view}
 
 -- ---- refusals that are not 11
 
@@ -79,17 +78,6 @@ other_head s =
     other_demand (ltb (m.value + c.value * g.value) (2 ^ 64)) 8 [] _ refl
     (other_step (read_varint s c.next) _ (other_varint s c.next) (λ (r : Field).
     other_demand (ltb r.value (2 ^ 32)) 8 [] _ refl tt))))))
-
--- ---- the code's cases
-
-pub for_refused : {a : Outcome (Column × Spelling)} {also : List ℕ} (n : ℕ) → a ≡ refusal n also → n ≡ 11 → refusal 20 [] ≡ for_view a
-for_refused n e eleven = rw (e, eleven)
-
-pub for_other : {a : Outcome (Column × Spelling)} {also : List ℕ} (n : ℕ) → a ≡ refusal n also → (n ≡ 11 → ⊥) → refusal n also ≡ for_view a
-for_other n e other = rw (e, ne_eqb n 11 other)
-
-pub for_column : {a : Outcome (Column × Spelling)} {k : Codec} (c : Column) (p : Spelling) → a ≡ value (c, p) → c.codec ≡ k → unless_blockwise k (c, p) ≡ for_view a
-for_column c p e is = rw (e, is)
 
 -- ---- by the codec
 
@@ -217,8 +205,8 @@ by_view C (c ∷ s) of_bitpacked of_linear o e =
         absurd (not_value e)
 
 -- its area lies behind its code byte and ends within the bytes
-pub viewed-within : (s : List ℕ) (a : Outcome (Column × Spelling)) → a ≡ column_in (viewed s) → AllWithin a s
-viewed-within s a is = subst (λ (x : Outcome (Column × Spelling)). AllWithin x s) (sym is) (⊎_elim
+pub viewed-within : (s : List ℕ) (a : Outcome (Column × Option ℕ)) → a ≡ column_in (viewed s) → AllWithin a s
+viewed-within s a is = subst (λ (x : Outcome (Column × Option ℕ)). AllWithin x s) (sym is) (⊎_elim
     (λ (twenty : viewed s ≡ refusal 20 []). subst (λ (o : Outcome Loaded). AllWithin (column_in o) s) (sym twenty) tt)
     (λ (same : (room : ℕ) → viewed s ≡ opened s room). opened-within s 0 (column_in (viewed s)) (ap column_in (same 0)))
     (plain_opens s))

@@ -3,41 +3,35 @@
 #![tactic(auto)]
 
 ghost use Rattle.std.specs.Prelude.{◌≡◌};
-ghost use Rattle.format.specs.Refusals.{opened_meaning};
 ghost use Rattle.view.specs.Held.{for_view, column_or};
 ghost use Rattle.view.specs.Calls.{PlainAs, RowOfAs, OpensAs, RowAs, RowsAs};
+ghost use Rattle.format.specs.Refusals.{answered_by};
 
-use format::{Block, Codec, Column, Line, Opened, Refusal, RowRead, Window, WindowRow};
+use format::{Block, Codec, Column, Line, Refusal, Window, WindowRow};
 
 // What opening with no room for a block answers, for a view. A Blockwise column lacks room, or it opens because it has no rows; a view takes neither.
-fn for_view(answer: Opened) -> Opened
-    ensures { opened_meaning result ≡ for_view (opened_meaning answer) }
+fn for_view(
+    answer: Result<(Column, Option<usize>), Refusal>,
+) -> Result<(Column, Option<usize>), Refusal>
+    ensures { answered_by result ≡ for_view (answered_by answer) }
 {
     match answer {
-        Opened::Column(column, _) => {
-            let codec = column.codec;
-            match codec {
-                Codec::Bitpacked => answer,
-                Codec::Linear(_, _) => answer,
-                Codec::Blockwise => Opened::Refused(Refusal::NotForView),
-            }
-        }
-        Opened::Refused(why) => {
-            if why.number() == 11 {
-                return Opened::Refused(Refusal::NotForView);
-            }
-            answer
-        }
+        Ok((column, _)) => match column.codec {
+            Codec::Bitpacked | Codec::Linear(_, _) => answer,
+            Codec::Blockwise => Err(Refusal::NotForView),
+        },
+        Err(Refusal::TableShort { .. }) => Err(Refusal::NotForView),
+        Err(_) => answer,
     }
 }
 
 // The column that an answer leaves to a view: where it refuses, one of no rows.
-fn column_of(answer: Opened) -> Column
-    ensures { result ≡ column_or (opened_meaning answer) }
+fn column_of(answer: Result<(Column, Option<usize>), Refusal>) -> Column
+    ensures { result ≡ column_or (answered_by answer) }
 {
     match answer {
-        Opened::Column(column, _) => column,
-        Opened::Refused(_) => Column {
+        Ok((column, _)) => column,
+        Err(_) => Column {
             minimum: 0,
             gcd: 0,
             count: 0,
@@ -51,7 +45,7 @@ fn column_of(answer: Opened) -> Column
 }
 
 // Opens a column for a view, under an acceptance sheet that the caller names.
-pub fn open_plain(sheet: u32, bytes: &[u8]) -> Opened
+pub fn open_plain(sheet: u32, bytes: &[u8]) -> Result<(Column, Option<usize>), Refusal>
     ensures { PlainAs sheet bytes.now result }
 {
     let answer = for_view(open_column::open_plain(bytes, 0));
@@ -59,7 +53,7 @@ pub fn open_plain(sheet: u32, bytes: &[u8]) -> Opened
 }
 
 // The value of a row of such a column, with its bytes: as with an empty table.
-pub fn row_of(column: Column, bytes: &[u8], row: u32) -> RowRead
+pub fn row_of(column: Column, bytes: &[u8], row: u32) -> Result<u64, Refusal>
     ensures { RowOfAs column bytes.now row result }
 {
     let line = Line {
@@ -81,10 +75,11 @@ pub struct View<'a> {
     pub column: Column,
 }
 
-// What opening answers, and the view. (An enum cannot hold a reference: where opening refuses, the view's column has no rows.)
+// What opening answers, and the view; where opening refuses, the view's column has no rows. (A struct, since the contract of `open` tells
+// of the view beside a refusal, too.)
 #[derive(Clone, Copy)]
 pub struct Opening<'a> {
-    pub answer: Opened,
+    pub answer: Result<(Column, Option<usize>), Refusal>,
     pub view: View<'a>,
 }
 
@@ -101,7 +96,7 @@ pub fn open<'a>(sheet: u32, bytes: &'a [u8]) -> Opening<'a>
 }
 
 // The value of a row of the view's column.
-pub fn row<'a>(view: View<'a>, row: u32) -> RowRead
+pub fn row<'a>(view: View<'a>, row: u32) -> Result<u64, Refusal>
     ensures { RowAs view.entry row result }
 {
     row_of(view.column, view.bytes, row)

@@ -7,88 +7,79 @@
 ghost use Rattle.std.specs.Prelude.{◌≡◌, ◌+◌, ◌^◌, ◌≤◌, ◌<◌, length};
 ghost use Rattle.format.specs.Outcome.{Wrote};
 ghost use Rattle.format.specs.Varint.{read_varint, spell};
-ghost use Rattle.vint.specs.Meaning.{vint_meaning, spelled_by, tenth_at};
+ghost use Rattle.vint.specs.Meaning.{spelled_by, tenth_at};
+ghost use Rattle.format.specs.Refusals.{answered_by};
 
-use format::{Field, Refusal, Spelling};
-
-// What reading finds: the number with the offset behind it, the bytes it takes and how it is spelled, or the refusal of the field,
-// number 6 with its offset.
-#[derive(Clone, Copy)]
-pub enum VintRead {
-    Value(Field),
-    Refused(Refusal),
-}
+use format::{Field, Refusal};
 
 // How a number at an offset is spelled whose last byte comes behind so many others: in more bytes than it need be exactly if there
 // are others and the last one adds nothing to them.
-fn spelled(at: usize, others: usize, last: u8) -> Spelling
+fn spelled(at: usize, others: usize, last: u8) -> Option<usize>
     ensures { result ≡ spelled_by at others last }
 {
     if last != 128 {
-        return Spelling::Shortest;
+        return None;
     }
     if others == 0 {
-        return Spelling::Shortest;
+        return None;
     }
-    Spelling::Longer { offset: at }
+    Some(at)
 }
 
 // Internal: asks for a number below 2^63, which nine bytes from an offset on stand for; none of them ends the varint there. The byte at `pos`, the tenth, must:
 // it may add one bit.
-fn tenth(s: &[u8], at: usize, number: u64, pos: usize) -> VintRead
+fn tenth(s: &[u8], at: usize, number: u64, pos: usize) -> Result<Field, Refusal>
     requires { number < 2 ^ 63 }
-    ensures { vint_meaning result ≡ tenth_at s.now at number pos }
+    ensures { answered_by result ≡ tenth_at s.now at number pos }
 {
     if s.len() <= pos {
-        return VintRead::Refused(Refusal::BadField { offset: at });
+        return Err(Refusal::BadField { offset: at });
     }
     let b = s[pos];
     if b == 128 {
-        return VintRead::Value(Field {
+        return Ok(Field {
             value: number,
             next: pos + 1,
             used: 10,
-            spelling: Spelling::Longer { offset: at },
+            longer: Some(at),
         });
     }
     if b == 129 {
-        return VintRead::Value(Field {
+        return Ok(Field {
             value: number + 0x8000_0000_0000_0000,
             next: pos + 1,
             used: 10,
-            spelling: Spelling::Shortest,
+            longer: None,
         });
     }
-    VintRead::Refused(Refusal::BadField { offset: at })
+    Err(Refusal::BadField { offset: at })
 }
 
 // The varint at an offset. It is refused where the bytes end before it does, where no byte of ten ends it, and where it is
 // 2^64 or more: nine bytes hold 63 bits.
-pub fn read(s: &[u8], at: usize) -> VintRead
-    ensures { vint_meaning result ≡ read_varint s.now at }
+pub fn read(s: &[u8], at: usize) -> Result<Field, Refusal>
+    ensures { answered_by result ≡ read_varint s.now at }
 {
     let mut number: u64 = 0;
     let mut scale: u64 = 1;
     let mut pos = at;
-    let mut used: usize = 0;
-    while used < 9 {
+    for used in 0..9 {
         if s.len() <= pos {
-            return VintRead::Refused(Refusal::BadField { offset: at });
+            return Err(Refusal::BadField { offset: at });
         }
         let last = s[pos];
         let b = word::wide(last);
         if 128 <= b {
-            return VintRead::Value(Field {
+            return Ok(Field {
                 value: number + (b - 128) * scale,
                 next: pos + 1,
                 used: used + 1,
-                spelling: spelled(at, used, last),
+                longer: spelled(at, used, last),
             });
         }
         number += b * scale;
         scale *= 128;
         pos += 1;
-        used += 1;
     }
     tenth(s, at, number, pos)
 }

@@ -4,6 +4,7 @@
 --     too_many, unknown_byte, none_applies, written_by     what the entry point comes to
 --     numbers-written                                      numbers are stored as they are
 -- Assumes nothing.
+use Rattle.std.specs.Prelude.{Option, Some, None, Ok, Err}
 use Prim.Native.Nat.{ℕ, suc, ◌+◌, ◌^◌, ◌≤◌, ◌<◌}
 use mathlib.Core.Path.{◌≡◌, sym, ap, ◌∙◌, subst}
 use mathlib.Core.List.{List, [], ◌∷◌}
@@ -14,7 +15,6 @@ use Rattle.format.specs.declared.Codec.{Codec}
 use Rattle.format.specs.declared.ColumnStats.{ColumnStats}
 use Rattle.format.specs.declared.Kind.TheVariants.{U64}
 use Rattle.format.specs.declared.Refusal.TheVariants.{TooManyValues, UnknownCodec, NoCodecApplies, OutputShort}
-use Rattle.format.specs.declared.Stored.TheVariants.{Entries, Refused}
 use Rattle.format.specs.Outcome.{Outcome, Outcome.value, Outcome.refusal, Wrote}
 use Rattle.format.specs.Stats.{stats_of}
 use Rattle.format.specs.Listing.{code_of}
@@ -23,24 +23,20 @@ use Rattle.format.specs.Writing.{size_of, chosen, known, codec_of, written}
 use Rattle.format.specs.Typed.{stored_as}
 use Rattle.format.proofs.Outcomes.{told}
 use Rattle.format.proofs.StoredLists.{stored-numbers}
-use Rattle.write_codec.specs.declared.choice.Choice.{Choice}
-use Rattle.write_codec.specs.declared.choice.Choice.TheVariants.{Nothing, By}
-use Rattle.write_codec.specs.declared.choice.Place.{Place}
-use Rattle.write_codec.specs.declared.choice.Place.TheVariants.{At, Nowhere}
 use Rattle.write_codec.specs.Choice.{place_meaning, choice_meaning, AptCodec, Names}
 use Rattle.write_codec.specs.Writing.{lent}
 use Rattle.format.specs.Calls.{StoresAs, StoredAs}
 
 -- an output that is too short
 pub too_short : (column old : List ℕ) (needed : ℕ) → needed ≡ length column → length old < needed
-    → StoredAs (lent column (length old)) (Refused (OutputShort needed)) old old
+    → StoredAs (lent column (length old)) (Err (OutputShort needed)) old old
 too_short column old needed e h =
     let short = lt-leb (length column) (length old) (omega arith) in
     record { answer = rw (short, e); list = rw short }
 
 -- the code byte, and the body behind it
 pub put_behind : (code : ℕ) (bytes old : List ℕ) {new : List ℕ} (needed : ℕ) {n : ℕ} → needed ≡ suc (length bytes) → needed ≤ length old
-    → Wrote (set old 0 code) 1 bytes new n → StoredAs (lent (code ∷ bytes) (length old)) (Entries n) old new
+    → Wrote (set old 0 code) 1 bytes new n → StoredAs (lent (code ∷ bytes) (length old)) (Ok n) old new
 put_behind code bytes old needed e h w =
     let enough = le-leb (suc (length bytes)) (length old) (omega arith) in
     record { answer = rw (enough, w.ends, one (length bytes)); list = rw enough w.list }
@@ -50,32 +46,32 @@ put_behind code bytes old needed e h w =
 
 -- ---- the entry point
 
-pub chosen_apt : {vs : List ℕ} {o : Outcome ℕ} {c : Choice} {codec : Codec} → Names vs o c → c ≡ By codec → AptCodec vs codec
+pub chosen_apt : {vs : List ℕ} {o : Outcome ℕ} {c : Option Codec} {codec : Codec} → Names vs o c → c ≡ Some codec → AptCodec vs codec
 chosen_apt named is = rw is at named.apt
 
 module _ (vs cs old : List ℕ) where
-  pub too_many : 2 ^ 32 ≤ length vs → StoredAs (written vs cs (length old)) (Refused TooManyValues) old old
+  pub too_many : 2 ^ 32 ≤ length vs → StoredAs (written vs cs (length old)) (Err TooManyValues) old old
   unfolding written
   too_many h = record { answer = rw (le-ltb (length vs) (2 ^ 32) h); list = rw (le-ltb (length vs) (2 ^ 32) h) }
 
-  module _ (few : length vs < 2 ^ 32) {p : Place} (sought : place_meaning p ≡ known 0 cs) where
-    pub unknown_byte : {i : ℕ} → p ≡ At i → StoredAs (written vs cs (length old)) (Refused (UnknownCodec i)) old old
+  module _ (few : length vs < 2 ^ 32) {p : Option ℕ} (sought : place_meaning p ≡ known 0 cs) where
+    pub unknown_byte : {i : ℕ} → p ≡ Some i → StoredAs (written vs cs (length old)) (Err (UnknownCodec i)) old old
     unfolding written
     unknown_byte {i} is =
         let found = told place_meaning sought is in
         record { answer = rw (lt-ltb (length vs) (2 ^ 32) few, found); list = rw (lt-ltb (length vs) (2 ^ 32) few, found) }
 
-    module _ (nowhere : p ≡ Nowhere) {s : ColumnStats} (stats : s ≡ stats_of vs) {b : Choice} (named : Names vs (codec_of (chosen (λ c. size_of c s vs) cs)) b) where
+    module _ (nowhere : p ≡ None) {s : ColumnStats} (stats : s ≡ stats_of vs) {b : Option Codec} (named : Names vs (codec_of (chosen (λ c. size_of c s vs) cs)) b) where
       choice : codec_of (chosen (λ c. size_of c (stats_of vs) vs) cs) ≡ choice_meaning b
       choice = rw (← stats) (sym named.means)
 
-      pub none_applies : b ≡ Nothing → StoredAs (written vs cs (length old)) (Refused NoCodecApplies) old old
+      pub none_applies : b ≡ None → StoredAs (written vs cs (length old)) (Err NoCodecApplies) old old
       unfolding written
       none_applies is =
           let chose : codec_of (chosen (λ c. size_of c (stats_of vs) vs) cs) ≡ refusal 3 [] = choice ∙ ap choice_meaning is in
           record { answer = rw (lt-ltb (length vs) (2 ^ 32) few, told place_meaning sought nowhere, chose); list = rw (lt-ltb (length vs) (2 ^ 32) few, told place_meaning sought nowhere, chose) }
 
-      pub written_by : {codec : Codec} {said : Outcome ℕ} {new : List ℕ} → b ≡ By codec
+      pub written_by : {codec : Codec} {said : Outcome ℕ} {new : List ℕ} → b ≡ Some codec
           → StoresAs (lent (column_by (code_of codec) vs) (length old)) said old new → StoresAs (written vs cs (length old)) said old new
       unfolding written
       written_by {codec} is left =

@@ -4,9 +4,9 @@
 --     needed_0, needed_1, needed_2              the length that a column needs, from the length of its body
 --     bodies                                    the bodies of values by their own statistics
 -- Assumes nothing.
+use Rattle.std.specs.Prelude.{Some, None}
 use Prim.Native.Nat.{ℕ, suc, ◌+◌, ◌*◌, ◌≤◌, ◌<◌}
 use mathlib.Core.Path.{◌≡◌, ap}
-use mathlib.Core.Option.{some}
 use mathlib.Core.List.{List, map}
 use native.Mathlib.Omega.{arith}
 use borrow.Author.Tests.{lt-ltb, le-ltb}
@@ -30,29 +30,28 @@ use Rattle.linear_estimator.proofs.Body as lined
 use Rattle.blockwise_estimator.specs.declared.Sizes.{Sizes}
 use Rattle.blockwise_estimator.specs.Writer.{Takes}
 use Rattle.blockwise_estimator.proofs.Body as blocked
-use Rattle.write_codec.specs.declared.choice.Best.TheVariants.{Nothing, Least}
 use Rattle.write_codec.specs.Choice.{Stands, sized_by}
 use Rattle.write_codec.proofs.Choosing.{third}
 
 module _ (s : ColumnStats) (vs : List ℕ) where
-  pub sized_0 : (code n : ℕ) → code ≡ 0 → n ≡ length (spell_head s) + bytes_for (width (count_of s) * s.rows) → Stands vs (sized_by s vs code) (Least Bitpacked n)
+  pub sized_0 : (code n : ℕ) → code ≡ 0 → n ≡ length (spell_head s) + bytes_for (width (count_of s) * s.rows) → Stands vs (sized_by s vs code) (Some (record { codec = Bitpacked; size = n }))
   unfolding size_of
   sized_0 code n is e = record { means = rw (is, e); apt = tt }
 
-  pub unsized_1 : length vs < 512 → Stands vs (sized_by s vs 1) Nothing
+  pub unsized_1 : length vs < 512 → Stands vs (sized_by s vs 1) None
   unfolding size_of
   unsized_1 h = record { means = rw (lt-ltb (length vs) 512 h); apt = tt }
 
   pub sized_1 : {fit : Fit} (n : ℕ) → 512 ≤ length vs → Fits vs fit → n ≡ length (spell_head s) + length (spell_line fit.line) + 1 + bytes_for (fit.bits * s.rows)
-      → Stands vs (sized_by s vs 1) (Least (Linear fit.line fit.bits) n)
+      → Stands vs (sized_by s vs 1) (Some (record { codec = Linear fit.line fit.bits; size = n }))
   unfolding size_of
   sized_1 n h f e = record { means = rw (le-ltb (length vs) 512 h, ← f.line, ← f.bits, e); apt = f }
 
-  pub sized_2 : (code n : ℕ) → (code ≡ 0 → ⊥) → (code ≡ 1 → ⊥) → code ≤ 2 → some n ≡ size_of 2 s vs → Stands vs (sized_by s vs code) (Least Blockwise n)
+  pub sized_2 : (code n : ℕ) → (code ≡ 0 → ⊥) → (code ≡ 1 → ⊥) → code ≤ 2 → Some n ≡ size_of 2 s vs → Stands vs (sized_by s vs code) (Some (record { codec = Blockwise; size = n }))
   sized_2 code n not_0 not_1 h e = rw (third code not_0 not_1 h) (record { means = ap (sized 2) e; apt = tt })
 
 -- the same of values of a kind
-pub unsized_stored : (s : ColumnStats) (k : Kind) (ws : List ℕ) → length ws < 512 → Stands (stored_as k ws) (sized_by s (stored_as k ws) 1) Nothing
+pub unsized_stored : (s : ColumnStats) (k : Kind) (ws : List ℕ) → length ws < 512 → Stands (stored_as k ws) (sized_by s (stored_as k ws) 1) None
 unsized_stored s k ws h = unsized_1 s (stored_as k ws) (rw (stored-length k ws) h)
 
 -- ---- the length that a column needs

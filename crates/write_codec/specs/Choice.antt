@@ -1,7 +1,6 @@
 -- What the parts of the choice mean, and what they ask of one another.
 -- Assumes nothing.
-use Rattle.std.specs.Prelude.{ℕ, zero, suc, ◌≡◌, Bool, true, false, List, [], ◌∷◌}
-use Rattle.std.proofs.Math.Option.{Option, none, some}
+use Rattle.std.specs.Prelude.{ℕ, zero, suc, ◌≡◌, Bool, true, false, List, [], ◌∷◌, Option, Some, None}
 use Rattle.format.specs.declared.Codec.{Codec}
 use Rattle.format.specs.declared.Codec.TheVariants.{Bitpacked, Linear, Blockwise}
 use Rattle.format.specs.declared.ColumnStats.{ColumnStats}
@@ -10,23 +9,18 @@ use Rattle.format.specs.Listing.{code_of}
 use Rattle.format.specs.Writing.{Sized, sized, size_of, smaller}
 use Rattle.linear_estimator.specs.Writer.{Fits}
 use Rattle.write_codec.specs.declared.choice.Best.{Best}
-use Rattle.write_codec.specs.declared.choice.Best.TheVariants.{Nothing, Least}
-use Rattle.write_codec.specs.declared.choice.Choice.{Choice}
-use Rattle.write_codec.specs.declared.choice.Choice.TheVariants.{Nothing as Neither, By}
 use Rattle.write_codec.specs.declared.choice.Met.{Met}
-use Rattle.write_codec.specs.declared.choice.Place.{Place}
-use Rattle.write_codec.specs.declared.choice.Place.TheVariants.{At, Nowhere}
 use Rattle.write_codec.specs.declared.choice.Walk.{Walk}
 
 -- what the search for an unknown byte found
-abbrev pub place_meaning : Place → Outcome (Unit {0})
-place_meaning (At i) = refusal 2 (i ∷ [])
-place_meaning Nowhere = value tt
+abbrev pub place_meaning : Option ℕ → Outcome (Unit {0})
+place_meaning (Some i) = refusal 2 (i ∷ [])
+place_meaning None = value tt
 
 -- the best of some codecs
-abbrev pub best_meaning : Best → Option Sized
-best_meaning Nothing = none
-best_meaning (Least codec size) = some (record { codec = code_of codec; size = size })
+abbrev pub best_meaning : Option Best → Option Sized
+best_meaning None = None
+best_meaning (Some b) = Some (record { codec = code_of b.codec; size = b.size })
 
 -- a codec's own numbers are those that some values are written by
 abbrev pub AptCodec : List ℕ → Codec → Type 0
@@ -35,27 +29,27 @@ AptCodec vs (Linear line bits) = Fits vs (record { line = line; bits = bits })
 AptCodec vs Blockwise = Unit {0}
 
 -- the same of the best codec, if there is one
-abbrev pub Apt : List ℕ → Best → Type 0
-Apt vs Nothing = Unit {0}
-Apt vs (Least codec size) = AptCodec vs codec
+abbrev pub Apt : List ℕ → Option Best → Type 0
+Apt vs None = Unit {0}
+Apt vs (Some b) = AptCodec vs b.codec
 
 -- an answer is what was to be found, and can be written by
-pub record Stands (vs : List ℕ) (found : Option Sized) (b : Best) : Type 0 where
+pub record Stands (vs : List ℕ) (found : Option Sized) (b : Option Best) : Type 0 where
   pub means : best_meaning b ≡ found
   pub apt : Apt vs b
 
 -- the codec of a choice; none is refused
-abbrev pub choice_meaning : Choice → Outcome ℕ
-choice_meaning Neither = refusal 3 []
-choice_meaning (By codec) = value (code_of codec)
+abbrev pub choice_meaning : Option Codec → Outcome ℕ
+choice_meaning None = refusal 3 []
+choice_meaning (Some codec) = value (code_of codec)
 
 -- it can be written by, if there is one
-abbrev pub AptChoice : List ℕ → Choice → Type 0
-AptChoice vs Neither = Unit {0}
-AptChoice vs (By codec) = AptCodec vs codec
+abbrev pub AptChoice : List ℕ → Option Codec → Type 0
+AptChoice vs None = Unit {0}
+AptChoice vs (Some codec) = AptCodec vs codec
 
 -- an answer names the codec that was to be found, and it can be written by
-pub record Names (vs : List ℕ) (found : Outcome ℕ) (c : Choice) : Type 0 where
+pub record Names (vs : List ℕ) (found : Outcome ℕ) (c : Option Codec) : Type 0 where
   pub means : choice_meaning c ≡ found
   pub apt : AptChoice vs c
 

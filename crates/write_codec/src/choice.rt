@@ -11,25 +11,11 @@ ghost use Rattle.write_codec.specs.Choice.{place_meaning, best_meaning, Apt, Sta
 
 use format::{Codec, ColumnStats, Kind};
 
-// A place in the list.
-#[derive(Clone, Copy)]
-pub enum Place {
-    At(usize),
-    Nowhere,
-}
-
 // The best codec of some, with its size. Linear comes with the line and the width that it was sized by.
 #[derive(Clone, Copy)]
-pub enum Best {
-    Nothing,
-    Least { codec: Codec, size: u64 },
-}
-
-// The codec of a choice, if one applies.
-#[derive(Clone, Copy)]
-pub enum Choice {
-    Nothing,
-    By(Codec),
+pub struct Best {
+    pub codec: Codec,
+    pub size: u64,
 }
 
 // The codecs that a walk over the list has met.
@@ -43,58 +29,49 @@ struct Met {
 // Where such a walk stands.
 #[derive(Clone, Copy)]
 struct Walk {
-    best: Best,
+    best: Option<Best>,
     met: Met,
 }
 
 // The first place of a byte that names no codec.
-pub fn unknown(codecs: &[u8]) -> Place
+#[tactic(auto, using(crate::proofs::Choosing::unknown_found))]
+pub fn unknown(codecs: &[u8]) -> Option<usize>
     ensures { place_meaning result ≡ known 0 codecs.now }
 {
-    let mut i = 0;
-    while i < codecs.len() {
-        if 2 < codecs[i] {
-            return Place::At(i);
-        }
-        i += 1;
-    }
-    Place::Nowhere
+    codecs.iter().position(|code| 2 < *code)
 }
 
 // Of two, the one with the least size; on equal sizes, the first.
-fn smaller_of(a: Best, b: Best) -> Best
+fn smaller_of(a: Option<Best>, b: Option<Best>) -> Option<Best>
     ensures { (best_meaning result ≡ smaller (best_meaning a) (best_meaning b)) × ((vs : List ℕ) → Apt vs a → Apt vs b → Apt vs result) }
 {
-    match a {
-        Best::Nothing => b,
-        Best::Least { codec: _, size } => match b {
-            Best::Nothing => a,
-            Best::Least {
-                codec: _,
-                size: other,
-            } => { if size <= other { a } else { b } }
-        },
-    }
+    let Some(first) = a else {
+        return b;
+    };
+    let Some(other) = b else {
+        return a;
+    };
+    if first.size <= other.size { a } else { b }
 }
 
 // Linear with its size, where it applies.
 #[tactic(auto, using(crate::proofs::Sizes::unsized_stored))]
-fn sized_linear(kind: Kind, values: &[u64], stats: ColumnStats) -> Best
+fn sized_linear(kind: Kind, values: &[u64], stats: ColumnStats) -> Option<Best>
     requires { Describes stats (stored_as kind values.now) }
     ensures { Stands (stored_as kind values.now) (sized_by stats (stored_as kind values.now) 1) result }
 {
     if values.len() < 512 {
-        return Best::Nothing;
+        return None;
     }
     let fit = linear_estimator::fit_of(kind, values);
     let size = linear_estimator::estimate(stats, fit) as u64;
     let line = fit.line;
     let codec = Codec::Linear(line, fit.bits);
-    Best::Least { codec, size }
+    Some(Best { codec, size })
 }
 
 // Internal: asks for the values' own statistics, and for the number of a codec. This codec with its size, where it applies.
-pub fn sized(kind: Kind, values: &[u64], stats: ColumnStats, code: u8) -> Best
+pub fn sized(kind: Kind, values: &[u64], stats: ColumnStats, code: u8) -> Option<Best>
     requires describes { Describes stats (stored_as kind values.now) }
     requires code_bound { code ≤ 2 }
     ensures { Stands (stored_as kind values.now) (sized_by stats (stored_as kind values.now) code) result }
@@ -102,18 +79,18 @@ pub fn sized(kind: Kind, values: &[u64], stats: ColumnStats, code: u8) -> Best
     match code {
         0 => {
             let size = bitpacked_estimator::estimate(stats) as u64;
-            Best::Least {
+            Some(Best {
                 codec: Codec::Bitpacked,
                 size,
-            }
+            })
         }
         1 => sized_linear(kind, values, stats),
         _ => {
             let size = blockwise_estimator::estimate(kind, values, stats);
-            Best::Least {
+            Some(Best {
                 codec: Codec::Blockwise,
                 size,
-            }
+            })
         }
     }
 }
@@ -175,23 +152,21 @@ fn advance(kind: Kind, values: &[u64], stats: ColumnStats, walk: Walk, code: u8)
 }
 
 // The listed codec that takes least, with its size.
-fn choose(kind: Kind, values: &[u64], stats: ColumnStats, codecs: &[u8]) -> Best
+fn choose(kind: Kind, values: &[u64], stats: ColumnStats, codecs: &[u8]) -> Option<Best>
     requires describes { Describes stats (stored_as kind values.now) }
     requires codecs_value { known 0 codecs.now ≡ value tt }
     ensures { Stands (stored_as kind values.now) (chosen (λ c. size_of c stats (stored_as kind values.now)) codecs.now) result }
 {
     let mut walk = Walk {
-        best: Best::Nothing,
+        best: None,
         met: Met {
             bitpacked: false,
             linear: false,
             blockwise: false,
         },
     };
-    let mut i = 0;
-    while i < codecs.len() {
-        walk = advance(kind, values, stats, walk, codecs[i]);
-        i += 1;
+    for code in codecs {
+        walk = advance(kind, values, stats, walk, *code);
     }
     walk.best
 }
@@ -209,16 +184,14 @@ fn only_blockwise(codecs: &[u8]) -> bool
 
 // Internal: asks for the values' own statistics, and that each byte of the list names a codec. The listed codec that takes least. To size Blockwise
 // is to fit every block, which writing does again, so it is spared where there is nothing to compare.
-pub fn codec_for(kind: Kind, values: &[u64], stats: ColumnStats, codecs: &[u8]) -> Choice
+#[tactic(auto, using(crate::proofs::Choosing::names_best))]
+pub fn codec_for(kind: Kind, values: &[u64], stats: ColumnStats, codecs: &[u8]) -> Option<Codec>
     requires describes { Describes stats (stored_as kind values.now) }
     requires codecs_value { known 0 codecs.now ≡ value tt }
     ensures { Names (stored_as kind values.now) (codec_of (chosen (λ c. size_of c stats (stored_as kind values.now)) codecs.now)) result }
 {
     if only_blockwise(codecs) {
-        return Choice::By(Codec::Blockwise);
+        return Some(Codec::Blockwise);
     }
-    match choose(kind, values, stats, codecs) {
-        Best::Nothing => Choice::Nothing,
-        Best::Least { codec, size: _ } => Choice::By(codec),
-    }
+    choose(kind, values, stats, codecs).map(|best| best.codec)
 }

@@ -5,7 +5,6 @@ use mathlib.Core.Path.{◌≡◌, sym, ap, ap₂, ◌∙◌}
 use mathlib.Core.List.{List}
 use native.Mathlib.Nat.{lt_of_lt_of_le, sub_self, sub-zero, add-zero}
 use native.Mathlib.Omega.{arith}
-use borrow.Author.Rules.{rules}
 use lib.ListN.{length, take, drop, get_or}
 use lib.Pow.{pow_mono}
 use Rattle.format.specs.Word.{AllBelow}
@@ -30,7 +29,7 @@ room area at n h le = lt_of_lt_of_le (bytes_num_below n (drop at area) (all_drop
 
 pub loop-k-init : goal.loop-k-init
 unfolding bytes_num
-loop-k-init c = (search rules, sym (ap (λ (j : ℕ). bytes_num (take j (drop (c.args.at + c.args.n) c.args.area.now))) (sub_self c.args.n)))
+loop-k-init c = sym (ap (λ (j : ℕ). bytes_num (take j (drop (c.args.at + c.args.n) c.args.area.now))) (sub_self c.args.n))
 
 pub overflow_cast-byte : goal.overflow_cast-byte
 overflow_cast-byte c = omega (arith, c.type_inv.area (c.args.at + (c.loop-k.k - 1)))
@@ -50,10 +49,10 @@ overflow_add-word c =
 pub loop-k-preserved : goal.loop-k-preserved
 loop-k-preserved c =
     let next = more c.args.area.now c.args.at c.args.n c.loop-k.k (omega arith) (omega arith) (omega arith) in
-    (omega arith, ap (λ (x : ℕ). x * 256 + get_or c.args.area.now (c.args.at + (c.loop-k.k - 1)) 0) c.loop-k.invariant.1 ∙ next)
+    ap (λ (x : ℕ). x * 256 + get_or c.args.area.now (c.args.at + (c.loop-k.k - 1)) 0) c.loop-k.invariant ∙ next
 
 pub returns : goal.returns
 returns c =
     let end : c.loop-k.k ≡ 0 = omega arith in
-    c.loop-k.invariant.1 ∙ ap (λ (k : ℕ). bytes_num (take (c.args.n - k) (drop (c.args.at + k) c.args.area.now))) end
+    c.loop-k.invariant ∙ ap (λ (k : ℕ). bytes_num (take (c.args.n - k) (drop (c.args.at + k) c.args.area.now))) end
     ∙ ap₂ (λ (n at : ℕ). bytes_num (take n (drop at c.args.area.now))) (sub-zero c.args.n) (add-zero c.args.at)

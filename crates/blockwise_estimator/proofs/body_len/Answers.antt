@@ -4,12 +4,6 @@ use native.Mathlib.Omega.{arith}
 use Rattle.format.proofs.Spellings.{head_few}
 use Rattle.blockwise_estimator.proofs.body_len.Goals as goal
 
-pub head_len-requires : goal.head_len-requires
-head_len-requires c = c.requires.sound
-
-pub overflow_add-result : goal.overflow_add-result
-overflow_add-result c = omega (arith, c.requires.few_bytes.packs, c.requires.few_bytes.fields)
-
 pub overflow_add-result-2 : goal.overflow_add-result-2
 overflow_add-result-2 c = omega (arith, c.requires.few_bytes.packs, c.requires.few_bytes.fields, head_few c.args.stats)
 

@@ -3,13 +3,9 @@
 use lib.ListN.{length-map}
 use Rattle.stats.proofs.Described.{sound_of}
 use Rattle.format.specs.Typed.{stored_as}
-use Rattle.format.proofs.StoredLists.{stored-length}
 use Rattle.blockwise_estimator.specs.Writer.{normal, normals}
-use Rattle.blockwise_estimator.proofs.Body.{raw_above, takes_few, estimate_is, estimate_none}
+use Rattle.blockwise_estimator.proofs.Body.{takes_few, estimate_is, estimate_none}
 use Rattle.blockwise_estimator.proofs.estimate.Goals as goal
-
-pub measure-sizes-requires : goal.measure-sizes-requires
-measure-sizes-requires c = record { above = raw_above _; values_len_bound = rw (← stored-length c.args.kind c.args.values.now) c.requires.few }
 
 pub body_len-whole-requires : goal.body_len-whole-requires
 body_len-whole-requires c =

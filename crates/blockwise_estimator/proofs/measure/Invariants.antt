@@ -1,4 +1,3 @@
-use Prim.Native.Nat.{◌-◌}
 use Rattle.format.specs.Typed.{stored_as}
 use Rattle.blockwise_estimator.specs.Writer.{normals}
 use Rattle.blockwise_estimator.proofs.Walks.{Measuring}
@@ -6,6 +5,3 @@ use Rattle.blockwise_estimator.proofs.measure.Given as goal
 
 abbrev pub invariant-loop-at : goal.invariant-loop-at
 invariant-loop-at l = Measuring (normals l.minimum l.gcd (stored_as l.kind l.values)) l.rows l.area l.footer l.at
-
-abbrev pub decreases-loop-at : goal.decreases-loop-at
-decreases-loop-at l = l.rows - l.at

@@ -3,13 +3,12 @@
 use Prim.Native.Nat.{ℕ, ◌+◌, ◌-◌, ◌*◌}
 use mathlib.Core.Path.{◌≡◌, refl}
 use mathlib.Core.List.{List, ◌++◌}
-use native.Mathlib.Omega.{arith}
 use lib.ListN.{length, take, drop}
 use Rattle.format.specs.Outcome.{Wrote}
 use Rattle.format.specs.Word.{bytes_for}
 use Rattle.format.specs.Packing.{packed}
 use Rattle.format.proofs.Packing.{length-packed}
-use Rattle.format.proofs.Stores.{rest_room, rest_wrote}
+use Rattle.format.proofs.Stores.{rest_wrote}
 use Rattle.blockwise_estimator.specs.Writer.{Room}
 use Rattle.blockwise_estimator.proofs.pack_at.Goals as goal
 
@@ -18,17 +17,6 @@ wrote : {w : ℕ} {rows out : List ℕ} {at : ℕ} → Room w rows out at → (n
     → last ≡ packed w rows ++ drop (bytes_for (w * length rows)) (take (length out - at) (drop at out))
     → Wrote out at (packed w rows) (take at out ++ (last ++ drop (length out - at) (drop at out))) (at + n)
 wrote {w} {rows} {out} {at} r n e last filled = rw e (rest_wrote at (bytes_for (w * length rows)) (packed w rows) out out last (length-packed w rows) refl r.room filled)
-
-pub pack-requires : goal.pack-requires
-pack-requires c =
-    let out = c.args.out.now in
-    record { most = c.requires.most; fits = c.requires.fits; room = rest_room out out c.args.at refl c.requires.room }
-
-pub packed_len-requires : goal.packed_len-requires
-packed_len-requires c = (omega (arith, c.requires.few), c.requires.most)
-
-pub overflow_add-result : goal.overflow_add-result
-overflow_add-result c = omega (arith, c.requires.room, c.packed_len.ensures)
 
 pub returns : goal.returns
 returns c = wrote c.requires _ c.packed_len.ensures _ c.pack.ensures

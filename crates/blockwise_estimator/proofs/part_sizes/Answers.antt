@@ -1,17 +1,10 @@
 -- `part_sizes` meets its contract: a fitted block's rows fill as many bytes as its width says, and its entry is its line and a byte.
 -- Assumes nothing.
-use mathlib.Core.Path.{refl, sym}
+use mathlib.Core.Path.{refl}
 use native.Mathlib.Omega.{arith}
-use Rattle.format.proofs.Lists.{front_length}
 use Rattle.format.proofs.Spellings.{line_few}
-use Rattle.blockwise_estimator.proofs.Parts.{part_of, fit_of, part_long, fit_most, takes_of}
+use Rattle.blockwise_estimator.proofs.Parts.{fit_of, part_long, fit_most, takes_of}
 use Rattle.blockwise_estimator.proofs.part_sizes.Goals as goal
-
-pub slice_bounds-fit_part-end : goal.slice_bounds-fit_part-end
-slice_bounds-fit_part-end c = sym (front_length _ _ refl c.requires.few)
-
-pub fit_part-fit-requires : goal.fit_part-fit-requires
-fit_part-fit-requires c = part_of _ refl c.requires
 
 pub packed_len-area-requires : goal.packed_len-area-requires
 packed_len-area-requires c = (omega (arith, c.requires.few), fit_most c.fit_part-fit.ensures)

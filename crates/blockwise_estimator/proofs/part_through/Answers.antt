@@ -4,9 +4,6 @@ use native.Mathlib.Omega.{arith}
 use Rattle.blockwise_estimator.proofs.Parts.{part_few, room_of, entry_room, placed_of}
 use Rattle.blockwise_estimator.proofs.part_through.Goals as goal
 
-pub fit_part-fit-requires : goal.fit_part-fit-requires
-fit_part-fit-requires c = c.requires.part
-
 pub pack_at-behind-requires : goal.pack_at-behind-requires
 pack_at-behind-requires c = room_of (part_few c.requires.part) c.fit_part-fit.ensures c.requires.places.first
 

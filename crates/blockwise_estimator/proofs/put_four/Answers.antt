@@ -4,7 +4,6 @@ use native.Mathlib.Numerals.{add-one, add-two, add-three}
 use native.Mathlib.Omega.{arith}
 use Prim.Native.Nat.{ℕ, ◌/◌}
 use mathlib.Core.Path.{◌≡◌, refl}
-use lib.ListN.{length-set}
 use Rattle.format.specs.Packing.{num_bytes}
 use Rattle.blockwise_estimator.proofs.put_four.Goals as goal
 
@@ -14,15 +13,6 @@ higher n = omega arith
 
 highest : (n : ℕ) → n / 65536 / 256 ≡ n / 16777216
 highest n = omega arith
-
-pub bounds-out-at-2 : goal.bounds-out-at-2
-bounds-out-at-2 c = simp length-set (omega arith)
-
-pub bounds-out-at-3 : goal.bounds-out-at-3
-bounds-out-at-3 c = simp length-set (omega arith)
-
-pub bounds-out-at-4 : goal.bounds-out-at-4
-bounds-out-at-4 c = simp length-set (omega arith)
 
 pub returns : goal.returns
 unfolding num_bytes

@@ -4,20 +4,13 @@ use mathlib.Core.Path.{sym}
 use native.Mathlib.Omega.{arith}
 use Rattle.format.proofs.Lines.{residuals-length}
 use Rattle.blockwise_estimator.proofs.Filled.{filled-starts, filled-ends, residual_stored}
-use borrow.Author.Rules.{rules}
 use Rattle.blockwise_estimator.proofs.to_residuals.Goals as goal
 
 pub loop-i-init : goal.loop-i-init
 loop-i-init c = filled-starts _ _ (sym (residuals-length _ _))
 
-pub loop-i-smaller : goal.loop-i-smaller
-loop-i-smaller c = omega (arith, c.loop-i.invariant.same)
-
 pub loop-i-preserved : goal.loop-i-preserved
-loop-i-preserved c = residual_stored _ c.loop-i.invariant (search rules) c.residual.ensures
-
-pub shape_of-ys : goal.shape_of-ys
-shape_of-ys c = c.loop-i.invariant.same
+loop-i-preserved c = residual_stored _ c.loop-i.invariant (omega (arith, c.loop-i.invariant.same)) c.residual.ensures
 
 pub returns : goal.returns
-returns c = filled-ends c.loop-i.invariant (search rules)
+returns c = filled-ends c.loop-i.invariant (omega (arith, c.loop-i.invariant.same))

@@ -1,4 +1,3 @@
-use Prim.Native.Nat.{◌-◌}
 use Rattle.format.specs.Typed.{stored_as}
 use Rattle.blockwise_estimator.specs.Writer.{normals}
 use Rattle.blockwise_estimator.proofs.Walks.{Placing}
@@ -6,6 +5,3 @@ use Rattle.blockwise_estimator.proofs.write_blocks.Given as goal
 
 abbrev pub invariant-loop-at : goal.invariant-loop-at
 invariant-loop-at l = Placing (normals l.minimum l.gcd (stored_as l.kind l.values)) l.rows l.initial.out 0 l.mid l.out l.area l.footer l.at
-
-abbrev pub decreases-loop-at : goal.decreases-loop-at
-decreases-loop-at l = l.rows - l.at

@@ -1,7 +1,7 @@
 -- `byte_owner::run_owners` meets its contract: its tests are the definition's; a row of the run is below its rows.
 -- Assumes nothing.
+use Rattle.std.specs.Prelude.{Some}
 use Rattle.std.proofs.Common.{ℕ, ◌+◌, ◌-◌, ◌*◌, ◌/◌, ◌≤◌, sym, ap, ◌∙◌, arith}
-use Rattle.format.specs.declared.Owners.TheVariants.{Rows}
 use Rattle.byte_owner.proofs.Runs.{run_illegal, run_early, run_late, run_here}
 use Rattle.byte_owner.proofs.run_owners.Goals as goal
 
@@ -27,5 +27,5 @@ returns-then-end-bit c =
 pub returns : goal.returns
 returns c =
     let s = c.args in
-    ap (λ (n : ℕ). Rows (s.first + 8 * (s.j - s.start) / s.bits) (s.first + n)) c.lesser-last.ensures
+    ap (λ (n : ℕ). Some (s.first + 8 * (s.j - s.start) / s.bits, s.first + n)) c.lesser-last.ensures
     ∙ sym (run_here (record { start = s.start; bits = s.bits; first = s.first; rows = s.rows }) s.j (sym c.is_legal.ensures ∙ c.if-not-is_legal.false) c.if-j-start.false c.if-end-bit.false)

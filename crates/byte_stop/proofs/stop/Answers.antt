@@ -10,8 +10,8 @@ returns-then-bytes-eq0 c = stop_none _ c.if-bytes-eq0.true
 pub returns-then-code-gt2 : goal.returns-then-code-gt2
 returns-then-code-gt2 c = stop_unknown c.args.bytes.now (omega arith) c.if-code-gt2.true
 
-pub returns-in-Head : goal.returns-in-Head
-returns-in-Head c = rw (reach-known c.args.bytes.now (omega arith) c.if-code-gt2.false, ← c.in-Head.ensures) c.body.ensures
+pub returns-in-Ok : goal.returns-in-Ok
+returns-in-Ok c = rw (reach-known c.args.bytes.now (omega arith) c.if-code-gt2.false, ← c.in-Ok.ensures) c.body.ensures
 
-pub returns-in-Stop : goal.returns-in-Stop
-returns-in-Stop c = rw (reach-known c.args.bytes.now (omega arith) c.if-code-gt2.false, ← c.in-Stop.ensures)
+pub returns-in-Err : goal.returns-in-Err
+returns-in-Err c = rw (reach-known c.args.bytes.now (omega arith) c.if-code-gt2.false, ← c.in-Err.ensures)

@@ -25,11 +25,10 @@ finish : (base best slope : ℕ) (ys : List ℕ) (i : ℕ) → length ys ≤ i �
 finish base best slope ys i h = fold_end (nearer base) best (residuals (through slope) ys) i (rw residuals-length h)
 
 pub loop-i-init : goal.loop-i-init
-loop-i-init c = (omega arith, rw (c.sub-base.ensures, c.residual-best.ensures) (start _ _ _ c.requires))
+loop-i-init c = rw (c.sub-base.ensures, c.residual-best.ensures) (start _ _ _ c.requires)
 
 pub loop-i-preserved : goal.loop-i-preserved
-loop-i-preserved c =
-    (omega arith, rw (c.nearer_of-best.ensures, c.residual-offset.ensures) (sym (step _ _ _ _ _ c.loop-i-test.true) ∙ c.loop-i.invariant.1))
+loop-i-preserved c = rw (c.nearer_of-best.ensures, c.residual-offset.ensures) (sym (step _ _ _ _ _ (omega arith)) ∙ c.loop-i.invariant)
 
 pub returns : goal.returns
-returns c = sym (finish _ _ _ _ _ c.loop-i-test.false) ∙ c.loop-i.invariant.1
+returns c = sym (finish _ _ _ _ _ c.loop-i-test.false) ∙ c.loop-i.invariant

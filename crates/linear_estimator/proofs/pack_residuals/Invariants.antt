@@ -1,4 +1,3 @@
-use Prim.Native.Nat.{◌-◌}
 use Rattle.format.specs.Line.{residuals}
 use Rattle.format.specs.Typed.{stored_as}
 use Rattle.bitpacker.specs.Packer.{Packing}
@@ -6,6 +5,3 @@ use Rattle.linear_estimator.proofs.pack_residuals.Given as goal
 
 abbrev pub invariant-loop-i : goal.invariant-loop-i
 invariant-loop-i l = Packing l.bits (residuals l.line (stored_as l.kind l.values)) l.initial.out l.i l.packer l.out
-
-abbrev pub decreases-loop-i : goal.decreases-loop-i
-decreases-loop-i l = l.rows - l.i

@@ -7,9 +7,7 @@ use borrow.Author.Rules.{rules}
 use Rattle.linear_estimator.proofs.spread_of.Goals as goal
 
 pub loop-i-init : goal.loop-i-init
-loop-i-init c =
-    let is = stored_is c.args.kind c.args.values.now 0 c.requires c.stored_of.ensures in
-    spreading_starts _ _ _ (stored_there c.args.kind c.args.values.now 0 c.requires) (c.deviation-first.ensures ∙ ap (deviation_at c.args.line 0) is)
+loop-i-init c = spreading_starts _ _ (stored_there c.args.kind c.args.values.now 0 c.requires)
 
 pub loop-i-preserved : goal.loop-i-preserved
 loop-i-preserved c =

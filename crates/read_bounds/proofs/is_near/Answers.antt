@@ -6,7 +6,7 @@ use mathlib.Core.Bool.{true}
 use native.Mathlib.Omega.{arith}
 use lib.Dec.{leb}
 use lib.Pow.{pow_pos}
-use borrow.Author.Tests.{not-false, leb-true}
+use borrow.Author.Tests.{leb-true}
 use Rattle.format.specs.Word.{mod_sub}
 use Rattle.read_bounds.proofs.Lines.{stays}
 use Rattle.read_bounds.proofs.Sures.{never}

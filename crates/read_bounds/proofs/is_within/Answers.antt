@@ -3,7 +3,7 @@
 use Prim.Native.Nat.{ℕ, ◌≤◌}
 use mathlib.Core.Path.{refl, sym}
 use native.Mathlib.Omega.{arith}
-use borrow.Author.Tests.{not-false, eqb-true}
+use borrow.Author.Tests.{eqb-true}
 use Rattle.format.proofs.Lists.{front_length}
 use Rattle.read_row.specs.Chunks.{Chunk}
 use Rattle.read_bounds.proofs.Sures.{never, multiples_stand, multiples_fit}

@@ -3,5 +3,5 @@
 use borrow.Author.Tests.{not-false}
 use Rattle.read_lookup.proofs.is_told.Goals as goal
 
-pub returns-in-Entries : goal.returns-in-Entries
-returns-in-Entries c = λ test read window o before f. c.is_done.ensures test read window o before (not-false _ c.if-not-w.false) c.if-w-le512.false c.in-Entries.is f
+pub returns-in-Ok : goal.returns-in-Ok
+returns-in-Ok c = λ test read window o before f. c.is_done.ensures test read window o before (not-false _ c.if-not-w.false) c.if-w-le512.false c.in-Ok.is f

@@ -1,10 +1,5 @@
-use Prim.Native.Nat.{◌-◌}
-use lib.ListN.{length}
-use Rattle.read_chunk.proofs.Copies.{CopiedTo}
+use Rattle.read_scan.proofs.Copies.{CopiedTo}
 use Rattle.read_scan.proofs.copy_rows.Given as goal
 
 abbrev pub invariant-loop-i : goal.invariant-loop-i
 invariant-loop-i l = CopiedTo l.rows l.initial.found l.at l.found l.i
-
-abbrev pub decreases-loop-i : goal.decreases-loop-i
-decreases-loop-i l = length l.rows - l.i

@@ -4,12 +4,12 @@ use Rattle.read_chunk.proofs.Chunks.{whole_run, refused_run}
 use Rattle.read_walk.proofs.Walking.{ended, refuses, falls_over}
 use Rattle.read_walk.proofs.behind.Goals as goal
 
-pub returns-in-Whole : goal.returns-in-Whole
-returns-in-Whole c =
-    let told = c.in-Whole.is in
+pub returns-in-Ok : goal.returns-in-Ok
+returns-in-Ok c =
+    let told = c.in-Ok.is in
     record { walking = (λ k read window o before list values f d n room. rw told (c.advanced.ensures.walking k read window o before list values f (whole_run d told) n room)); result_bound = c.advanced.ensures.result_bound }
 
-pub returns-in-Refused : goal.returns-in-Refused
-returns-in-Refused c =
-    let told = c.in-Refused.is in
-    record { walking = (λ k read window o before list values f d n room. rw told (ended c.over.ensures.0 c.over.ensures.1 (refuses k read f _ c.requires.1 c.in-Refused.why (refused_run d told)))); result_bound = falls_over _ c.requires.0 c.over.result c.over.ensures.0 }
+pub returns-in-Err : goal.returns-in-Err
+returns-in-Err c =
+    let told = c.in-Err.is in
+    record { walking = (λ k read window o before list values f d n room. rw told (ended c.over.ensures.0 c.over.ensures.1 (refuses k read f _ c.requires.1 c.in-Err.why (refused_run d told)))); result_bound = falls_over _ c.requires.0 c.over.result c.over.ensures.0 }

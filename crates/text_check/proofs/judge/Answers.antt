@@ -12,26 +12,26 @@ use Rattle.text_check.proofs.judge.Goals as goal
 
 pub check_front-checked-requires : goal.check_front-checked-requires
 check_front-checked-requires c =
-    let few = ((let front-here : (values_in c.args.file.now ≡ value (take c.in-Values.n c.take.new.values)) × (c.in-Values.n ≤ 65536) = let room : length c.take.new.values ≡ 65536 = omega arith in
-    taken_values c.args.file.now c.take.ensures c.in-Values.n c.in-Values.is room in front-here)).1 in
+    let few = ((let front-here : (values_in c.args.file.now ≡ value (take c.in-Ok.n c.take.new.values)) × (c.in-Ok.n ≤ 65536) = let room : length c.take.new.values ≡ 65536 = omega arith in
+    taken_values c.args.file.now c.take.ensures c.in-Ok.n c.in-Ok.is room in front-here)).1 in
     (omega arith, omega arith)
 
-pub returns-in-Values : goal.returns-in-Values
-returns-in-Values c = (
+pub returns-in-Ok : goal.returns-in-Ok
+returns-in-Ok c = (
   record {
     values = c.take.ensures.list;
-    line = judged_values c.args.sheet.now c.args.bytes.now c.args.file.now ((let front-here : (values_in c.args.file.now ≡ value (take c.in-Values.n c.take.new.values)) × (c.in-Values.n ≤ 65536) = let room : length c.take.new.values ≡ 65536 = omega arith in
-        taken_values c.args.file.now c.take.ensures c.in-Values.n c.in-Values.is room in front-here)).0 c.sheet_of.ensures c.check_front-checked.ensures c.verdict_line.ensures.wrote;
+    line = judged_values c.args.sheet.now c.args.bytes.now c.args.file.now ((let front-here : (values_in c.args.file.now ≡ value (take c.in-Ok.n c.take.new.values)) × (c.in-Ok.n ≤ 65536) = let room : length c.take.new.values ≡ 65536 = omega arith in
+        taken_values c.args.file.now c.take.ensures c.in-Ok.n c.in-Ok.is room in front-here)).0 c.sheet_of.ensures c.check_front-checked.ensures c.verdict_line.ensures.wrote;
   },
   c.verdict_line.ensures.prefix_len,
 )
 
-pub returns-in-Refused : goal.returns-in-Refused
-returns-in-Refused c =
-    let was = c.in-Refused.refusal in (
+pub returns-in-Err : goal.returns-in-Err
+returns-in-Err c =
+    let was = c.in-Err.refusal in (
       record {
         values = c.take.ensures.list;
-        line = judged_none c.args.sheet.now c.args.bytes.now c.args.file.now was (taken_none c.args.file.now c.take.ensures was c.in-Refused.is) c.number.ensures c.named_line.ensures.wrote;
+        line = judged_none c.args.sheet.now c.args.bytes.now c.args.file.now was (taken_none c.args.file.now c.take.ensures was c.in-Err.is) c.number.ensures c.named_line.ensures.wrote;
       },
       c.named_line.ensures.prefix_len,
     )

@@ -1,4 +1,4 @@
-use Prim.Native.Nat.{◌-◌}
+use Prim.Native.Nat.{◌+◌, ◌-◌}
 use lib.ListN.{length}
 use Rattle.format.specs.Parts.{parts_of}
 use Rattle.text.proofs.Filling.{Filling}
@@ -7,7 +7,7 @@ use Rattle.text_explain.specs.Chunk.{Placed}
 use Rattle.text_explain.proofs.fill_lines.Given as goal
 
 abbrev pub invariant-loop-out : goal.invariant-loop-out
-invariant-loop-out l = Filling (text_at l.bytes l.column) part_max (length (parts_of l.bytes l.column)) l.from l.initial.out l.out l.p l.at × Placed l.bytes l.column l.p l.place
+invariant-loop-out l = Filling (text_at l.bytes l.column) part_max (length (parts_of l.bytes l.column)) l.from l.initial.out l.out (l.from + l.told.parts) l.told.bytes × Placed l.bytes l.column (l.from + l.told.parts) l.place
 
 abbrev pub decreases-loop-out : goal.decreases-loop-out
-decreases-loop-out l = length (parts_of l.bytes l.column) - l.p
+decreases-loop-out l = length (parts_of l.bytes l.column) - (l.from + l.told.parts)

@@ -1,9 +1,5 @@
-use Prim.Native.Nat.{◌-◌, ◌≤◌}
 use Rattle.text_explain.specs.Chunk.{Placed}
 use Rattle.text_explain.proofs.place_of.Given as goal
 
-abbrev pub invariant-loop-k : goal.invariant-loop-k
-invariant-loop-k l = Placed l.bytes l.column l.k l.place × (l.k ≤ l.number)
-
-abbrev pub decreases-loop-k : goal.decreases-loop-k
-decreases-loop-k l = l.number - l.k
+abbrev pub invariant-loop : goal.invariant-loop
+invariant-loop l = Placed l.bytes l.column l.counter l.place

@@ -1,17 +1,19 @@
 -- `u64_based::column_stats_as` meets its contract: the test of the number of values is the rule's demand.
 -- Assumes nothing.
-use Prim.Native.Nat.{◌^◌}
-use borrow.Author.Tests.{lt-ltb, le-ltb}
-use lib.ListN.{length}
+use mathlib.Core.Path.{◌≡◌}
+use Rattle.format.specs.Refusals.{numbered}
 use Rattle.format.specs.Stats.{stated}
+use Rattle.format.specs.Typed.{stored_as}
 use borrow.Author.Rules.{rules}
-use Rattle.format.proofs.StoredLists.{stored-length}
+use Rattle.u64_based.proofs.Holding.{too_many, not_too_many}
 use Rattle.u64_based.proofs.column_stats_as.Goals as goal
 
-pub returns-then-values-gt4294967295 : goal.returns-then-values-gt4294967295
+pub returns-in_err-few : goal.returns-in_err-few
 unfolding stated
-returns-then-values-gt4294967295 c = rw (stored-length c.args.kind c.args.values.now, le-ltb (length c.args.values.now) (2 ^ 32) (search rules))
+returns-in_err-few c =
+    let refused : stated (stored_as c.args.kind c.args.values.now) ≡ numbered c.in_err-few.field-0.0 = rw (too_many c.args.kind c.args.values.now c.in_err-few.ensures.1, c.in_err-few.ensures.0) in
+    search rules
 
 pub returns : goal.returns
 unfolding stated
-returns c = rw (stored-length c.args.kind c.args.values.now, lt-ltb (length c.args.values.now) (2 ^ 32) (search rules), c.collect.ensures)
+returns c = rw (not_too_many c.args.kind c.args.values.now c.in_ok-few.ensures, c.collect.ensures)

@@ -1,38 +1,56 @@
 -- `u64_based::serialize_as` meets its contract: each return knows what the steps before it found, in the order of the rule.
 -- Assumes nothing.
-use native.Mathlib.Omega.{arith}
-use Rattle.format.proofs.Outcomes.{told}
-use Rattle.stats.specs.Asked.{Describes}
+use Rattle.std.specs.Prelude.{None, Some, Err}
+use Rattle.std.specs.Result.{result_ok}
+use mathlib.Core.Path.{◌≡◌, ap, ◌∙◌}
+use lib.ListN.{length}
+use Rattle.format.specs.declared.Refusal.TheVariants.{NoCodecApplies}
+use Rattle.format.specs.Calls.{StoredAs}
 use Rattle.format.specs.Typed.{stored_as}
-use Rattle.format.proofs.StoredLists.{stored-length, stored-words}
+use Rattle.format.specs.Writing.{written}
+use Rattle.format.proofs.Outcomes.{told}
+use Rattle.format.proofs.StoredLists.{stored-length}
 use Rattle.write_codec.specs.Choice.{place_meaning}
-use Rattle.write_codec.proofs.Serializing.{chosen_apt, too_many, unknown_byte, none_applies, written_by}
+use Rattle.write_codec.proofs.Serializing as writing
+use borrow.Author.Rules.{rules}
+use Rattle.u64_based.proofs.Holding.{few_of, describes_of}
 use Rattle.u64_based.proofs.serialize_as.Goals as goal
 
-pub returns-then-values-gt4294967295 : goal.returns-then-values-gt4294967295
-returns-then-values-gt4294967295 c = too_many _ _ _ (rw (stored-length c.args.kind c.args.values.now) (omega arith))
+pub returns-in_err-few : goal.returns-in_err-few
+returns-in_err-few c =
+    let vs = stored_as c.args.kind c.args.values.now in
+    let refused : StoredAs (written vs c.args.codecs.now (length c.args.out.now)) (Err c.in_err-few.field-0.0) c.args.out.now c.args.out.now =
+    rw c.in_err-few.ensures.0 (writing.too_many vs c.args.codecs.now c.args.out.now (rw (stored-length c.args.kind c.args.values.now) c.in_err-few.ensures.1)) in
+    search rules
 
-pub returns-in-At : goal.returns-in-At
-returns-in-At c = unknown_byte _ _ _ (rw (stored-length c.args.kind c.args.values.now) (omega arith)) c.unknown.ensures c.in-At.is
+pub returns-in-Some : goal.returns-in-Some
+returns-in-Some c = writing.unknown_byte _ _ _ (few_of c.args.kind c.args.values.now c.in_ok-few.ensures) c.unknown.ensures c.in-Some.is
 
 pub codec_for-requires : goal.codec_for-requires
-codec_for-requires c =
-    let describes : Describes c.collect-stats.result (stored_as c.args.kind c.args.values.now) = record { stats = c.collect-stats.ensures; few = rw (stored-length c.args.kind c.args.values.now) (omega arith); words = stored-words c.args.kind c.args.values.now (λ i h. (c.type_inv.values i).fits) } in
-    record { describes = describes; codecs_value = told place_meaning c.unknown.ensures c.in_default.is }
+codec_for-requires c = record {
+  describes = describes_of c.args.kind c.args.values.now c.in_ok-few.ensures c.type_inv.values c.collect-stats.ensures;
+  codecs_value = told place_meaning c.unknown.ensures c.in_default.is;
+}
+
+pub returns-in_err-codec : goal.returns-in_err-codec
+returns-in_err-codec c =
+    let vs = stored_as c.args.kind c.args.values.now in
+    let none : c.codec_for.result ≡ None = c.ok_or.ensures.ok_part ∙ ap result_ok c.in_err-codec.was in
+    let said = rw none at c.in_err-codec.ensures.value in
+    let applies_not : c.in_err-codec.field-0.0 ≡ NoCodecApplies = cc in
+    let refused : StoredAs (written vs c.args.codecs.now (length c.args.out.now)) (Err c.in_err-codec.field-0.0) c.args.out.now c.args.out.now =
+    rw applies_not (writing.none_applies vs c.args.codecs.now c.args.out.now (few_of c.args.kind c.args.values.now c.in_ok-few.ensures) c.unknown.ensures c.in_default.is c.collect-stats.ensures c.codec_for.ensures none) in
+    search rules
 
 pub put-requires : goal.put-requires
 put-requires c =
-    let describes : Describes c.collect-stats.result (stored_as c.args.kind c.args.values.now) = record { stats = c.collect-stats.ensures; few = rw (stored-length c.args.kind c.args.values.now) (omega arith); words = stored-words c.args.kind c.args.values.now (λ i h. (c.type_inv.values i).fits) } in
-    record { describes = describes; apt_codec = chosen_apt c.codec_for.ensures c.in-By.is }
+    let is : c.codec_for.result ≡ Some c.in_ok-codec.codec = c.ok_or.ensures.ok_part ∙ ap result_ok c.in_ok-codec.was in
+    record {
+      describes = describes_of c.args.kind c.args.values.now c.in_ok-few.ensures c.type_inv.values c.collect-stats.ensures;
+      apt_codec = writing.chosen_apt c.codec_for.ensures is;
+    }
 
-pub returns-in-Nothing : goal.returns-in-Nothing
-returns-in-Nothing c =
-    let describes : Describes c.collect-stats.result (stored_as c.args.kind c.args.values.now) = record { stats = c.collect-stats.ensures; few = rw (stored-length c.args.kind c.args.values.now) (omega arith); words = stored-words c.args.kind c.args.values.now (λ i h. (c.type_inv.values i).fits) } in
-    let d = describes in
-    none_applies _ _ _ d.few c.unknown.ensures c.in_default.is d.stats c.codec_for.ensures c.in-Nothing.is
-
-pub returns-in-By : goal.returns-in-By
-returns-in-By c =
-    let describes : Describes c.collect-stats.result (stored_as c.args.kind c.args.values.now) = record { stats = c.collect-stats.ensures; few = rw (stored-length c.args.kind c.args.values.now) (omega arith); words = stored-words c.args.kind c.args.values.now (λ i h. (c.type_inv.values i).fits) } in
-    let d = describes in
-    written_by _ _ _ d.few c.unknown.ensures c.in_default.is d.stats c.codec_for.ensures c.in-By.is c.put.ensures
+pub returns : goal.returns
+returns c =
+    let is : c.codec_for.result ≡ Some c.in_ok-codec.codec = c.ok_or.ensures.ok_part ∙ ap result_ok c.in_ok-codec.was in
+    writing.written_by _ _ _ (few_of c.args.kind c.args.values.now c.in_ok-few.ensures) c.unknown.ensures c.in_default.is c.collect-stats.ensures c.codec_for.ensures is c.put.ensures

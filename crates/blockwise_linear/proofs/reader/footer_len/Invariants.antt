@@ -6,6 +6,3 @@ use Rattle.blockwise_linear.proofs.reader.footer_len.Given as goal
 
 abbrev pub invariant-loop-at : goal.invariant-loop-at
 invariant-loop-at l = (l.end ≤ l.at) × ((l.at ≤ length l.bytes) × (l.long ≡ bytes_num (drop l.at l.bytes)))
-
-abbrev pub decreases-loop-at : goal.decreases-loop-at
-decreases-loop-at l = l.at

@@ -1,28 +1,21 @@
--- `same_front` meets its contract, by the invariant `Fronts`.
+-- `same_front` meets its contract: the chain takes pairs as long as their two numbers are equal.
 -- Assumes nothing.
-use Prim.Native.Nat.{◌-◌}
-use mathlib.Core.Path.{sym, ◌∙◌}
-use Rattle.format.proofs.StoredLists.{stored_at, stored-length, stored_there}
-use Rattle.check_verdict.proofs.Fronts.{fronts_start, fronts_more, fronts_end, fronts_short, fronts_other}
+use Rattle.std.proofs.Common.{rules, tests, ◌≡◌, ◌∙◌, length, take}
+use Rattle.std.specs.List.{zip, prefix_len}
+use Rattle.std.proofs.lemmas.Iterator.{YieldsList-from_slice, YieldsList-from_zip}
+use Rattle.std.proofs.lemmas.Iterator.Consumers.{YieldsList-at, count_from_yields_List}
+use Rattle.std.proofs.lemmas.Iterator.Search.{YieldsList-from_take_while}
+use Rattle.format.specs.Typed.{stored_in}
+use Rattle.check_verdict.proofs.Fronts.{fronts_paired, same_pair}
 use Rattle.check_verdict.proofs.rows.same_front.Goals as goal
 
-pub loop-i-init : goal.loop-i-init
-loop-i-init c = fronts_start _ _
-
-pub loop-i-preserved : goal.loop-i-preserved
-loop-i-preserved c =
-    let inside = c.if-values-i.false in
-    fronts_more c.loop-i.invariant c.loop-i-test.true (stored_there c.args.kind c.args.values.now _ inside)
-    (c.if-numbers-i.false ∙ c.stored_of.ensures ∙ sym (stored_at c.args.kind c.args.values.now _ inside))
-
-pub returns-after-loop-i : goal.returns-after-loop-i
-returns-after-loop-i c = fronts_end c.loop-i.invariant c.loop-i-test.false
-
-pub returns-then-values-i : goal.returns-then-values-i
-returns-then-values-i c = fronts_short c.loop-i.invariant c.loop-i-test.true (rw (stored-length c.args.kind c.args.values.now) c.if-values-i.true)
-
-pub returns-then-numbers-i : goal.returns-then-numbers-i
-returns-then-numbers-i c =
-    let inside = c.if-values-i.false in
-    fronts_other c.loop-i.invariant c.loop-i-test.true (stored_there c.args.kind c.args.values.now _ inside)
-    (λ same. c.if-numbers-i.true (same ∙ stored_at c.args.kind c.args.values.now _ inside ∙ sym c.stored_of.ensures))
+pub returns : goal.returns
+returns c =
+    let f = stored_in c.args.kind in
+    let xs = c.args.numbers.now in
+    let vs = c.args.values.now in
+    let pairs = YieldsList-from_zip (YieldsList-at c.zip.ensures.first (YieldsList-from_slice xs c.iter.ensures.rest)) (YieldsList-from_slice vs c.zip.ensures.second.0) in
+    let taken : c.count.result ≡ length (take (prefix_len (same_pair f) (zip xs vs)) (zip xs vs)) =
+    count_from_yields_List c.take_while.result _ c.count.ensures.ran
+    (YieldsList-from_take_while _ (same_pair f) (YieldsList-at c.take_while.ensures.source pairs) c.take_while.ensures.closure c.take_while.ensures.done (λ x b q k. search (rules, tests))) in
+    taken ∙ fronts_paired f xs vs

@@ -4,4 +4,4 @@ use mathlib.Core.Path.{refl, ◌∙◌}
 use Rattle.compare_walk.proofs.equal.equal_at.Goals as goal
 
 pub returns : goal.returns
-returns c = c.are_equal.ensures ∙ rw (c.row_of.ensures, c.row_of-2.ensures) refl
+returns c = c.equal_answers.ensures ∙ rw (c.row_of.ensures, c.row_of-2.ensures) refl

@@ -9,8 +9,8 @@ use Rattle.compare_walk.proofs.equal.equal_chunk.Goals as goal
 pub equal_rows-requires : goal.equal_rows-requires
 equal_rows-requires c = omega (arith, c.requires.3)
 
-pub equal_rows-requires-in-Refused-also : goal.equal_rows-requires-in-Refused-also
-equal_rows-requires-in-Refused-also c = omega (arith, c.requires.3)
+pub equal_rows-requires-in-Err-also : goal.equal_rows-requires-in-Err-also
+equal_rows-requires-in-Err-also c = omega (arith, c.requires.3)
 
 pub returns : goal.returns
 returns c =

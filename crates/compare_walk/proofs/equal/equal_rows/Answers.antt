@@ -1,19 +1,14 @@
 -- `compare_walk::equal::equal_rows` meets its contract, by the invariant `Passing`.
 -- Assumes nothing.
-use Prim.Native.Nat.{◌-◌}
 use mathlib.Core.Path.{sym, ◌∙◌}
-use borrow.Author.Tests.{not-true, not-false}
-use Rattle.compare_walk.proofs.Equals.{pass_starts, pass_more, pass_stops, pass_ends}
+use Rattle.compare_walk.proofs.Equals.{pass_more, pass_stops, pass_ends}
 use Rattle.compare_walk.proofs.equal.equal_rows.Goals as goal
 
-pub loop-i-init : goal.loop-i-init
-loop-i-init c = pass_starts _ _ _ _
-
 pub returns-then-not-equal_at : goal.returns-then-not-equal_at
-returns-then-not-equal_at c = pass_stops _ _ _ _ c.loop-i.invariant (sym c.equal_at.ensures ∙ not-true _ c.if-not-equal_at.true-raw)
+returns-then-not-equal_at c = pass_stops _ _ _ _ c.loop-i.invariant (sym c.equal_at.ensures ∙ c.if-not-equal_at.true)
 
 pub loop-i-preserved : goal.loop-i-preserved
-loop-i-preserved c = pass_more _ _ _ _ c.loop-i.invariant c.loop-i-test.true (sym c.equal_at.ensures ∙ not-false _ c.if-not-equal_at.false-raw)
+loop-i-preserved c = pass_more _ _ _ _ c.loop-i.invariant c.loop-i-test.true (sym c.equal_at.ensures ∙ c.if-not-equal_at.false)
 
 pub returns : goal.returns
 returns c = pass_ends _ _ _ _ c.loop-i.invariant c.loop-i-test.false

@@ -1,15 +1,10 @@
 -- `linear::reader::get_val` meets its contract: the part from the area's start on holds the row's number, and the tests are those of the bounds.
 -- Assumes nothing.
-use Rattle.format.specs.Outcome.{Outcome.value}
 use Prim.Native.Nat.{◌+◌, ◌*◌}
 use mathlib.Core.Path.{◌≡◌}
-use mathlib.Core.Bool.{Bool, true, false, ◌&&◌}
-use mathlib.Core.List.{[], ◌∷◌}
+use mathlib.Core.Bool.{true, false, ◌&&◌}
 use lib.Dec.{leb}
 use borrow.Author.Tests.{le-leb, lt-leb}
-use Rattle.format.specs.declared.Block.{Block}
-use Rattle.format.specs.Outcome.{◌>>◌, demand}
-use Rattle.format.specs.Reading.{packed_of, value_in}
 use Rattle.linear.proofs.Rows.{value_is}
 use Rattle.linear.proofs.reader.get_val.Goals as goal
 

@@ -1,33 +1,27 @@
--- `store_rows` meets its contract, by the invariant `Storing`.
+-- `store_rows` meets its contract, by the invariant `Storing` over the list's front.
 -- Assumes nothing.
-use Prim.Native.Nat.{◌-◌}
+use Rattle.format.specs.Refusals.{answered_by}
+use mathlib.Core.Path.{◌≡◌}
 use native.Mathlib.Omega.{arith}
-use Rattle.format.specs.Reading.{row_in}
-use Rattle.format.specs.Refusals.{row_meaning}
+use Rattle.std.proofs.lemmas.List.{length-take-le, set-get_or}
 use Rattle.format.proofs.Outcomes.{told}
-use Rattle.read_chunk.proofs.Stretches.{storing_starts, storing_more, storing_whole, storing_stopped}
+use Rattle.read_chunk.proofs.Stretches.{storing_more, storing_whole, storing_stopped, stretch_front}
 use Rattle.read_chunk.proofs.taking.store_rows.Goals as goal
 
-pub loop-i-init : goal.loop-i-init
-loop-i-init c = storing_starts _ _ _ _
-
-pub shape_of-out-in-Refused : goal.shape_of-out-in-Refused
-shape_of-out-in-Refused c = c.loop-i.invariant.kept
-
-pub returns-in-Refused : goal.returns-in-Refused
-returns-in-Refused c = storing_stopped _ c.loop-i.invariant c.loop-i-test.true (told row_meaning c.row_in.ensures c.in-Refused.is)
-
-pub bounds-out-i : goal.bounds-out-i
-bounds-out-i c = omega (arith, c.loop-i.invariant.kept, c.loop-i-test.true)
-
-pub loop-i-smaller : goal.loop-i-smaller
-loop-i-smaller c = omega (arith, c.loop-i-test.true)
+pub returns-in-Err : goal.returns-in-Err
+returns-in-Err c =
+    let long = length-take-le c.args.size c.args.out.now c.requires.1 in
+    rw (set-get_or c.loop-i.value-items c.loop-i.i 0)
+    (stretch_front _ _ _ c.requires.1 (storing_stopped _ c.loop-i.invariant (omega arith) (told answered_by c.row_in.ensures c.in-Err.is)))
 
 pub loop-i-preserved : goal.loop-i-preserved
-loop-i-preserved c = storing_more _ c.loop-i.invariant c.loop-i-test.true (told row_meaning c.row_in.ensures c.in-Value.is)
-
-pub shape_of-out : goal.shape_of-out
-shape_of-out c = c.loop-i.invariant.kept
+loop-i-preserved c =
+    let long = length-take-le c.args.size c.args.out.now c.requires.1 in
+    storing_more _ c.loop-i.invariant (omega arith) (told answered_by c.row_in.ensures c.in-Ok.is)
 
 pub returns : goal.returns
-returns c = storing_whole _ c.loop-i.invariant c.loop-i-test.false
+returns c =
+    let long = length-take-le c.args.size c.args.out.now c.requires.1 in
+    let all : c.loop-i.i ≡ c.args.size = omega (arith, c.loop-i.invariant.few) in
+    let whole = storing_whole _ c.loop-i.invariant (omega arith) in
+    stretch_front _ _ _ c.requires.1 (rw all at whole)

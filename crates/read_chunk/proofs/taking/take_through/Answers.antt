@@ -4,8 +4,8 @@ use mathlib.Core.Path.{refl}
 use Rattle.read_chunk.proofs.Stretches.{copied_whole}
 use Rattle.read_chunk.proofs.taking.take_through.Goals as goal
 
-pub returns-in-Whole : goal.returns-in-Whole
-returns-in-Whole c = copied_whole _ _ _ _ _ _ _ (rw c.in-Whole.is at c.decode-answer.ensures.answer) refl c.copy.ensures
+pub returns-in-Ok : goal.returns-in-Ok
+returns-in-Ok c = copied_whole _ _ _ _ _ _ _ (rw c.in-Ok.is at c.decode-answer.ensures.answer) refl c.copy.ensures
 
-pub returns-in-Refused : goal.returns-in-Refused
-returns-in-Refused c = c.store_rows.ensures
+pub returns-in-Err : goal.returns-in-Err
+returns-in-Err c = c.store_rows.ensures

@@ -4,8 +4,8 @@ use mathlib.Core.Path.{sym, ap}
 use Rattle.read_chunk.specs.Stretch.{counted}
 use Rattle.read_chunk.proofs.taking.values_of.Goals as goal
 
-pub returns-in-Whole : goal.returns-in-Whole
-returns-in-Whole c = ap counted (sym c.in-Whole.is)
+pub returns-in-Ok : goal.returns-in-Ok
+returns-in-Ok c = ap counted (sym c.in-Ok.is)
 
-pub returns-in-Stopped : goal.returns-in-Stopped
-returns-in-Stopped c = ap counted (sym c.in-Stopped.is)
+pub returns-in-Err : goal.returns-in-Err
+returns-in-Err c = ap counted (sym c.in-Err.is)

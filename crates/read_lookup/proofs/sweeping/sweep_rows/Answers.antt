@@ -20,7 +20,7 @@ loop-at-init c = (none_yet _ _ _ _, omega arith, omega (arith, c.requires.0), re
 pub loop-at-preserved : goal.loop-at-preserved
 loop-at-preserved c =
     let f = c.loop-at.invariant in
-    let g = swept_to _ _ c.sweep_there.ensures c.in-To.is in
+    let g = swept_to _ _ c.sweep_there.ensures c.in-Ok.is in
     let chunk : c.chunk_size-size.result ≡ chunk_size (column_row c.args.column c.loop-at.at) (c.args.end - c.loop-at.at) = c.chunk_size-size.ensures ∙ chunk-moved _ _ _ c.column_row-row.ensures in (
       more_gathered _ _ f.0 f.1 _ _ _ (omega (arith, g.0)) g.2,
       omega (arith, f.1, g.0),
@@ -29,8 +29,8 @@ loop-at-preserved c =
       omega (arith, f.4, g.0, few_gathered _ _ g.2),
     )
 
-pub returns-in-Refused : goal.returns-in-Refused
-returns-in-Refused c =
+pub returns-in-Err : goal.returns-in-Err
+returns-in-Err c =
     let f = c.loop-at.invariant in
     let chunk : c.chunk_size-size.result ≡ chunk_size (column_row c.args.column c.loop-at.at) (c.args.end - c.loop-at.at) = c.chunk_size-size.ensures ∙ chunk-moved _ _ _ c.column_row-row.ensures in
-    refused_later _ _ f.0 f.1 _ _ _ (omega (arith, chunk, c.loop-at-test.true)) (swept_refused _ _ c.sweep_there.ensures c.in-Refused.is) _
+    refused_later _ _ f.0 f.1 _ _ _ (omega (arith, chunk, c.loop-at-test.true)) (swept_refused _ _ c.sweep_there.ensures c.in-Err.is) _

@@ -1,11 +1,8 @@
 -- `read_row::reader::column_fits` meets its contract: its tests are the definition's.
 -- Assumes nothing.
-use mathlib.Core.Path.{◌≡◌, refl, sym, ◌∙◌}
-use mathlib.Core.Bool.{true}
+use mathlib.Core.Path.{refl, sym, ◌∙◌}
 use native.Mathlib.Omega.{arith}
-use lib.Dec.{ltb}
-use borrow.Author.Tests.{lt-ltb, le-ltb, not-true, not-false}
-use Rattle.format.specs.Reading.{window_fits}
+use borrow.Author.Tests.{lt-ltb, le-ltb}
 use Rattle.read_row.proofs.Fitting.{column_tested}
 use Rattle.read_row.proofs.reader.column_fits.Goals as goal
 

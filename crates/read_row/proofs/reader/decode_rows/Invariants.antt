@@ -1,12 +1,6 @@
-use Prim.Native.Nat.{◌-◌}
-use mathlib.Core.Path.{◌≡◌}
-use lib.ListN.{length}
 use Rattle.format.specs.Reading.{row_in}
 use Rattle.format.proofs.Runs.{Decoding}
 use Rattle.read_row.proofs.reader.decode_rows.Given as goal
 
 abbrev pub invariant-loop-i : goal.invariant-loop-i
-invariant-loop-i l = Decoding (row_in l.column l.blocks l.block l.bytes) l.first.0 l.out l.i × (length l.out ≡ length l.initial.out)
-
-abbrev pub decreases-loop-i : goal.decreases-loop-i
-decreases-loop-i l = length l.initial.out - l.i
+invariant-loop-i l = Decoding (row_in l.column l.blocks l.block l.bytes) l.first.0 l.out l.i

@@ -1,11 +1,8 @@
 -- `read_row::reader::row_fits` meets its contract: its tests are the definition's, in its order.
 -- Assumes nothing.
-use mathlib.Core.Path.{◌≡◌, refl, sym, ap, ◌∙◌}
-use mathlib.Core.Bool.{Bool, true}
-use borrow.Author.Tests.{not-true, not-false}
+use mathlib.Core.Path.{refl, sym, ap, ◌∙◌}
 use Rattle.format.specs.Packing.{legal}
 use Rattle.format.specs.declared.Place.{Place}
-use Rattle.format.specs.Reading.{place_of, has_block}
 use Rattle.read_row.proofs.Fitting.{in_area, row_tested}
 use Rattle.read_row.proofs.reader.row_fits.Goals as goal
 

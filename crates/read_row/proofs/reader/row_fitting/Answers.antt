@@ -1,5 +1,6 @@
 -- `read_row::reader::row_fitting` meets its contract: the value at the column's row, named as it was asked for.
 -- Assumes nothing.
+use Rattle.format.specs.Refusals.{answered_by}
 use Prim.Native.Nat.{ℕ}
 use mathlib.Core.Path.{◌≡◌, sym, ap, ◌∙◌, subst}
 use mathlib.Core.List.{List}
@@ -7,7 +8,6 @@ use native.Mathlib.Omega.{arith}
 use Rattle.format.specs.declared.Block.{Block}
 use Rattle.format.specs.declared.Column.{Column}
 use Rattle.format.specs.Outcome.{Outcome}
-use Rattle.format.specs.Refusals.{row_meaning}
 use Rattle.format.specs.Reading.{column_row, place_of, value_at, asked_as}
 use Rattle.format.proofs.Outcomes.{told}
 use Rattle.read_row.specs.Chunks.{Fitting}
@@ -23,12 +23,12 @@ value_of-requires c =
     let same : c.column_row-at.result.0 ≡ column_row c.args.column c.args.row.0 = omega (arith, c.column_row-at.ensures, c.requires.row_bound) in
     subst (λ (q : ℕ). Fitting c.args.column (place_of c.args.column c.args.block q) c.args.bytes.now) (sym same) c.requires.fitting
 
-pub returns-in-Value : goal.returns-in-Value
-returns-in-Value c =
+pub returns-in-Ok : goal.returns-in-Ok
+returns-in-Ok c =
     let same : c.column_row-at.result.0 ≡ column_row c.args.column c.args.row.0 = omega (arith, c.column_row-at.ensures, c.requires.row_bound) in
-    reads_as _ _ _ _ _ same (sym (ap (asked_as c.args.row.0) (told row_meaning c.value_of.ensures c.in-Value.is)))
+    reads_as _ _ _ _ _ same (sym (ap (asked_as c.args.row.0) (told answered_by c.value_of.ensures c.in-Ok.is)))
 
-pub returns-in-Refused : goal.returns-in-Refused
-returns-in-Refused c =
+pub returns-in-Err : goal.returns-in-Err
+returns-in-Err c =
     let same : c.column_row-at.result.0 ≡ column_row c.args.column c.args.row.0 = omega (arith, c.column_row-at.ensures, c.requires.row_bound) in
-    reads_as _ _ _ _ _ same (out_of_bounds _ _ _ _ _ (told row_meaning c.value_of.ensures c.in-Refused.is))
+    reads_as _ _ _ _ _ same (out_of_bounds _ _ _ _ _ (told answered_by c.value_of.ensures c.in-Err.is))

@@ -1,11 +1,10 @@
 -- `read_row::reader::row_in` meets its contract: its tests are the definition's, at the column's row.
 -- Assumes nothing.
 use Prim.Native.Nat.{ℕ, ◌^◌, ◌<◌}
-use mathlib.Core.Path.{◌≡◌, sym, ap, ◌∙◌, subst}
+use mathlib.Core.Path.{sym, ap, ◌∙◌, subst}
 use native.Mathlib.Omega.{arith}
-use mathlib.Core.Bool.{true}
-use borrow.Author.Tests.{lt-ltb, le-ltb, not-true, not-false}
-use Rattle.format.specs.Reading.{column_row, place_of, fits, row_in}
+use borrow.Author.Tests.{lt-ltb, le-ltb}
+use Rattle.format.specs.Reading.{place_of, fits, row_in}
 use Rattle.read_row.specs.Chunks.{Fitting}
 use Rattle.read_row.proofs.Fitting.{fitting, fitting_window}
 use Rattle.read_row.proofs.Moving.{not_moved, moved-fits}

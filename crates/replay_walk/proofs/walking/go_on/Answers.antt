@@ -1,13 +1,9 @@
 -- `replay_walk::walking::go_on` meets its contract: records without rows are passed by while nothing is recorded of them.
 -- Assumes nothing.
-use Prim.Native.Nat.{◌-◌}
 use native.Mathlib.Omega.{arith}
 use borrow.Author.Rules.{rules}
-use Rattle.replay_walk.proofs.Walks.{skip_starts, at_hand, hand_left, skip_differs, skip_more, all_done, ended, left_over}
+use Rattle.replay_walk.proofs.Walks.{at_hand, hand_left, skip_differs, skip_more, all_done, ended, left_over}
 use Rattle.replay_walk.proofs.walking.go_on.Goals as goal
-
-pub loop-i-init : goal.loop-i-init
-loop-i-init c = skip_starts _ _ _ _ c.requires
 
 pub returns-then-item-end : goal.returns-then-item-end
 returns-then-item-end c =

@@ -1,15 +1,8 @@
 -- `replay_walk::walking::met_all` meets its contract: each value is compared in its turn.
 -- Assumes nothing.
-use Prim.Native.Nat.{◌-◌}
 use borrow.Author.Tests.{not-true, not-false}
-use Rattle.replay_walk.proofs.Meets.{meet_starts, meet_more, meet_stops, meet_ends}
+use Rattle.replay_walk.proofs.Meets.{meet_more, meet_stops, meet_ends}
 use Rattle.replay_walk.proofs.walking.met_all.Goals as goal
-
-pub loop-i-init : goal.loop-i-init
-loop-i-init c = meet_starts _ _ _ _ _ _ _ c.requires.1
-
-pub met_one-met-requires : goal.met_one-met-requires
-met_one-met-requires c = c.loop-i.invariant.few
 
 pub returns-then-not-met : goal.returns-then-not-met
 returns-then-not-met c = record { meets = (λ rest. meet_stops _ _ _ _ _ _ c.loop-i.invariant c.loop-i-test.true c.met_one-met.result.same c.met_one-met.result.n c.met_one-met.ensures.by_index (not-true _ c.if-not-met.true) rest); n_le_many = c.met_one-met.ensures.n_le_many }

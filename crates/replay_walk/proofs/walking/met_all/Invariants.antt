@@ -1,11 +1,6 @@
-use Prim.Native.Nat.{◌-◌}
-use lib.ListN.{length}
 use Rattle.format.specs.Lookup.{within}
 use Rattle.replay_walk.proofs.Meets.{Meeting}
 use Rattle.replay_walk.proofs.walking.met_all.Given as goal
 
 abbrev pub invariant-loop-i : goal.invariant-loop-i
 invariant-loop-i l = Meeting l.head l.recording l.item (within l.item.low l.item.high) l.values l.row l.before l.n l.i
-
-abbrev pub decreases-loop-i : goal.decreases-loop-i
-decreases-loop-i l = length l.values - l.i

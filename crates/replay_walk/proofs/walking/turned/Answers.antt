@@ -12,8 +12,8 @@ use Rattle.replay_walk.specs.Walking.{to_come}
 use Rattle.replay_walk.proofs.Walks.{ended, left_over, left_some, refuses, strays}
 use Rattle.replay_walk.proofs.walking.turned.Goals as goal
 
-pub returns-in-Refused : goal.returns-in-Refused
-returns-in-Refused c = record { by_index = (λ read values f d same. ended _ _ _ c.differs.result c.differs.ensures.0 c.differs.ensures.1 (refuses f c.args.size c.requires.2 c.in-Refused.field-0 (refused_run d c.in-Refused.is))); result_bound = left_over c.differs.result c.differs.ensures.0 _ (left_some c.args.w c.requires.0 c.requires.3) }
+pub returns-in-Err : goal.returns-in-Err
+returns-in-Err c = record { by_index = (λ read values f d same. ended _ _ _ c.differs.result c.differs.ensures.0 c.differs.ensures.1 (refuses f c.args.size c.requires.2 c.in-Err.field-0 (refused_run d c.in-Err.is))); result_bound = left_over c.differs.result c.differs.ensures.0 _ (left_some c.args.w c.requires.0 c.requires.3) }
 
 pub returns-then-not-met : goal.returns-then-not-met
 returns-then-not-met c =

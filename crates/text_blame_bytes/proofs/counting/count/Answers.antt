@@ -24,13 +24,12 @@ loop-i-init c =
       omega arith,
       omega arith,
       omega arith,
-      omega arith,
     )
 
 pub count_at-counting-requires : goal.count_at-counting-requires
 count_at-counting-requires c =
     let inv = c.loop-i.invariant in
-    (record { more = omega (arith, inv.3); rows = inv.4; next = inv.5 }, stays_owned inv.0)
+    (record { more = omega (arith, inv.2); rows = inv.3; next = inv.4 }, stays_owned inv.0)
 
 pub loop-i-preserved : goal.loop-i-preserved
 loop-i-preserved c =
@@ -43,8 +42,7 @@ loop-i-preserved c =
       stays_then inv.0 c.count_at-counting.ensures.stays,
       inv.1 ∙ tally_more owners left right c.loop-i.i (length left) c.loop-i.counting.tally (omega arith)
           ∙ ap (tally_from owners left right (c.loop-i.i + 1) (length left - (c.loop-i.i + 1))) (sym here),
-      omega arith,
-      omega (arith, inv.3, c.count_at-counting.ensures.counted.bytes),
+      omega (arith, inv.2, c.count_at-counting.ensures.counted.bytes),
       c.count_at-counting.ensures.counted.rows,
       c.count_at-counting.ensures.counted.next,
     )

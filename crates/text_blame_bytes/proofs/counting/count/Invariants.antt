@@ -10,7 +10,4 @@ invariant-loop-i l =
     let owners = owners_found l.initial.counting.own.column l.left in
     let tally = l.counting.tally in
     Stays l.left l.initial.counting.own l.counting.own × (tallied owners l.left l.right ≡ tally_from owners l.left l.right l.i (length l.left - l.i) tally)
-    × (l.i ≤ length l.left) × (tally.bytes ≤ l.i) × (tally.rows ≤ tally.next) × (tally.next ≤ 2 ^ 32)
-
-abbrev pub decreases-loop-i : goal.decreases-loop-i
-decreases-loop-i l = length l.left - l.i
+    × (tally.bytes ≤ l.i) × (tally.rows ≤ tally.next) × (tally.next ≤ 2 ^ 32)

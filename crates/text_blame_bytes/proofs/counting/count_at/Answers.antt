@@ -13,9 +13,9 @@ returns-then-same_at c = record { tally_value = rw (sym c.same_at.ensures ∙ c.
 pub owners_of-named-requires : goal.owners_of-named-requires
 owners_of-named-requires c = c.requires.1
 
-pub with_byte-tally-requires : goal.with_byte-tally-requires
-with_byte-tally-requires c = c.requires.0
+pub with_byte-requires : goal.with_byte-requires
+with_byte-requires c = c.requires.0
 
 pub returns : goal.returns
 unfolding tally_from
-returns c = record { tally_value = rw (sym c.same_at.ensures ∙ c.if-same_at.false, ← c.owners_of-named.ensures.owners_value) c.with_byte-tally.ensures.value; counted = c.with_byte-tally.ensures.counted; stays = c.owners_of-named.ensures.stays }
+returns c = record { tally_value = rw (sym c.same_at.ensures ∙ c.if-same_at.false, ← c.owners_of-named.ensures.owners_value) c.with_byte.ensures.value; counted = c.with_byte.ensures.counted; stays = c.owners_of-named.ensures.stays }

@@ -1,7 +1,6 @@
 -- `rows_at` meets its contract. Before each turn the search comes to what it shall, with the table that opening finds; the pass is over the column's blocks, so a turn has the table's block
 -- at hand. The measure is the number of blocks left.
 -- Assumes nothing.
-use Prim.Native.Nat.{◌*◌, ◌<◌}
 use mathlib.Core.Path.{◌≡◌, sym, ap, ◌∙◌}
 use native.Mathlib.Omega.{arith}
 use Rattle.format.specs.declared.Column.{Column}

@@ -13,12 +13,12 @@ put_rows-end-requires c =
         stays_owned (stays_on (stays_here c.requires.owned.0) _ c.reach-l.ensures),
         stays_owned (stays_on (stays_here c.requires.owned.1) _ c.reach-r.ensures),
       );
-      first_le_last = rw c.in-Rows.is at c.requires.few;
+      first_le_last = rw c.in-Some.is at c.requires.few;
       at_in_bounds = omega (arith, c.requires.at_in_bounds);
     }
 
-pub returns-in-Rows : goal.returns-in-Rows
-returns-in-Rows c = record { wrote = rw c.in-Rows.is (rw (c.reach-l.ensures, c.reach-r.ensures) at c.put_rows-end.ensures.wrote); end_bound = c.put_rows-end.ensures.upper_bound; stays = (stays_on (stays_here c.requires.owned.0) _ c.reach-l.ensures, stays_on (stays_here c.requires.owned.1) _ c.reach-r.ensures) }
+pub returns-in-Some : goal.returns-in-Some
+returns-in-Some c = record { wrote = rw c.in-Some.is (rw (c.reach-l.ensures, c.reach-r.ensures) at c.put_rows-end.ensures.wrote); end_bound = c.put_rows-end.ensures.upper_bound; stays = (stays_on (stays_here c.requires.owned.0) _ c.reach-l.ensures, stays_on (stays_here c.requires.owned.1) _ c.reach-r.ensures) }
 
-pub returns-in-NoRow : goal.returns-in-NoRow
-returns-in-NoRow c = record { wrote = rw c.in-NoRow.is (record { ends = sym (add-zero _); list = refl }); end_bound = omega arith; stays = (stays_here c.requires.owned.0, stays_here c.requires.owned.1) }
+pub returns-in-None : goal.returns-in-None
+returns-in-None c = record { wrote = rw c.in-None.is (record { ends = sym (add-zero _); list = refl }); end_bound = omega arith; stays = (stays_here c.requires.owned.0, stays_here c.requires.owned.1) }

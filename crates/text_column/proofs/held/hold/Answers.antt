@@ -11,35 +11,10 @@ use Rattle.text_column.proofs.Holding.{holds-chunk}
 use Rattle.text_column.proofs.Owns.{own_few, own_window, own_moved, own_row_block}
 use Rattle.text_column.proofs.held.hold.Goals as goal
 
-pub returns-then-column-row : goal.returns-then-column-row
-returns-then-column-row c = record { holds = c.requires.holds; from = c.requires.first_le_row; at = λ inside. absurd (omega (arith, c.if-column-row.true)) }
-
-pub pass_at-pass-requires : goal.pass_at-pass-requires
-pass_at-pass-requires c = c.requires.holds.own
-
-pub overflow_sub-column : goal.overflow_sub-column
-overflow_sub-column c = omega (arith, c.if-column-row.false)
-
 pub values-count-requires : goal.values-count-requires
 values-count-requires c =
     let inside = c.if-column-row.false in
     record { at_row = record { shows = c.requires.holds.own.shows; inside = inside; block = ap (λ (p : Pass). p.block) ((let reached-here : c.pass_at-pass.result ≡ pass_at c.args.bytes.now c.args.column (block_of c.args.column c.args.row.0) = c.pass_at-pass.ensures ∙ ap (λ (k : ℕ). pass_at c.args.bytes.now c.args.column k) c.block_of-number.ensures in reached-here)) ∙ own_row_block c.requires.holds.own.shows inside }; size_value = (let long-here : c.chunk_size-size.result ≡ chunk_size (column_row c.args.column c.args.row.0) (c.args.column.window.rows - c.args.row.0) = c.chunk_size-size.ensures ∙ ap (λ (q : ℕ). chunk_size q (c.args.column.window.rows - c.args.row.0)) (c.column_row-at.ensures ∙ own_moved c.requires.holds.own.shows c.if-column-row.false) in long-here); out_len = c.requires.holds.rows.long }
-
-pub overflow_cast-result : goal.overflow_cast-result
-overflow_cast-result c =
-    omega (
-      arith,
-      (let small-here : c.args.row.0 + c.chunk_size-size.result < 2 ^ 32 = let shows = c.requires.holds.own.shows in
-          omega (arith, (let long-here : c.chunk_size-size.result ≡ chunk_size (column_row c.args.column c.args.row.0) (c.args.column.window.rows - c.args.row.0) = c.chunk_size-size.ensures ∙ ap (λ (q : ℕ). chunk_size q (c.args.column.window.rows - c.args.row.0)) (c.column_row-at.ensures ∙ own_moved c.requires.holds.own.shows c.if-column-row.false) in long-here), c.if-column-row.false, own_window shows, own_few shows) in small-here),
-    )
-
-pub overflow_add-result : goal.overflow_add-result
-overflow_add-result c =
-    omega (
-      arith,
-      (let small-here : c.args.row.0 + c.chunk_size-size.result < 2 ^ 32 = let shows = c.requires.holds.own.shows in
-          omega (arith, (let long-here : c.chunk_size-size.result ≡ chunk_size (column_row c.args.column c.args.row.0) (c.args.column.window.rows - c.args.row.0) = c.chunk_size-size.ensures ∙ ap (λ (q : ℕ). chunk_size q (c.args.column.window.rows - c.args.row.0)) (c.column_row-at.ensures ∙ own_moved c.requires.holds.own.shows c.if-column-row.false) in long-here), c.if-column-row.false, own_window shows, own_few shows) in small-here),
-    )
 
 pub returns : goal.returns
 returns c =

@@ -9,15 +9,9 @@ use lib.Seq.{length-take-le}
 use Rattle.format.specs.Reading.{column_row, place_of}
 use Rattle.format.specs.Runs.{read_run}
 use Rattle.read_row.specs.Chunks.{Fitting}
-use Rattle.text_column.proofs.Holding.{values_none, values_front}
+use Rattle.text_column.proofs.Holding.{values_front}
 use Rattle.text_column.proofs.Owns.{own_window, own_moved, own_fits, own_values}
 use Rattle.text_column.proofs.own.values.Goals as goal
-
-pub slice_bounds-decode_fitting-end : goal.slice_bounds-decode_fitting-end
-slice_bounds-decode_fitting-end c = omega (arith, c.requires.size_value, c.requires.out_len)
-
-pub slice_bounds-decode_fitting-end-2 : goal.slice_bounds-decode_fitting-end-2
-slice_bounds-decode_fitting-end-2 c = sym (length-take-le _ _ (omega (arith, c.requires.size_value, c.requires.out_len)))
 
 pub decode_fitting-n-requires : goal.decode_fitting-n-requires
 decode_fitting-n-requires c =
@@ -30,10 +24,6 @@ decode_fitting-n-requires c =
 -- a list whose front was filled is as long as it was
 front_long : (out front : List ℕ) (size n : ℕ) → length front ≡ length (take size out) → size ≤ n → length out ≡ n → length (front ++ drop size out) ≡ n
 front_long out front size n kept few long = omega (arith, length-append front (drop size out), length-drop size out, length-take-le size out (omega arith), kept)
-
-pub returns-then-n-size : goal.returns-then-n-size
-returns-then-n-size c =
-    values_none _ _ _ (front_long c.args.out.now c.decode_fitting-n.new.out c.args.size _ c.decode_fitting-n.auto.out (omega (arith, c.requires.size_value)) c.requires.out_len)
 
 pub returns : goal.returns
 returns c =

@@ -1,3 +1,0 @@
-pub mod Making
-pub mod Differing
-pub mod Reporting

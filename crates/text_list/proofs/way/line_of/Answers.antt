@@ -1,6 +1,0 @@
--- `line_of` meets its contract.
--- Assumes nothing.
-use Rattle.text_list.proofs.way.line_of.Goals as goal
-
-pub returns-in-Column : goal.returns-in-Column
-returns-in-Column c = rw c.in-Column.is
