@@ -11,7 +11,6 @@ ghost use Rattle.format.specs.Refusals.{answered_by};
 use format::{Codec, Column, ColumnRow, Head, Refusal};
 
 // The column of a head: its area comes behind it, at the width of the count.
-#[tactic(auto, using(format::proofs::Widths::width_most), unfolding(format::specs::Opening::open_bitpacked))]
 pub fn load(bytes: &[u8], head: Head) -> Result<(Column, Option<usize>), Refusal>
     ensures { answered_by result ≡ column_in (open_bitpacked bytes.now head) }
 {
@@ -20,7 +19,8 @@ pub fn load(bytes: &[u8], head: Head) -> Result<(Column, Option<usize>), Refusal
     if !word::ends_within(head.next, size, bytes.len()) {
         return Err(Refusal::AreaShort);
     }
-    Ok((head.column(head.next, size, Codec::Bitpacked), head.longer))
+    let column = head.column(head.next, size, Codec::Bitpacked);
+    Ok((column, head.longer))
 }
 
 // Internal: asks for a Bitpacked column whose maximum has 64 bits and whose area starts within the bytes. The value of a row, which no block has a part in.

@@ -29,7 +29,7 @@ length_in s = bytes_num (drop (length s - 4) s)
 abbrev pub first_cursor : (s : List ℕ) (rows : ℕ) → Cursor
 first_cursor s rows = record { at = length s - 4 - length_in s; start = 0; left = rows }
 
--- the block of some fields at a place, the place behind it, and their spelling
+-- the block of some fields at a place, the place behind it, and the offset of a longer field
 abbrev pub step_of : Cursor → Fields → Step
 step_of c f =
     record {
@@ -46,16 +46,16 @@ step_in s c = read_fields (up_to_length s) c.at >>= (λ (f : Fields). value (ste
 abbrev pub blocks_from : (s : List ℕ) → Cursor → Outcome Table
 blocks_from s c = read_blocks (block_count c.left) (up_to_length s) c.at c.start c.left
 
--- what was read, as the bytes of the area and the spelling alone
-abbrev pub area_in : Outcome Table → Outcome (ℕ × (Option ℕ))
+-- what was read, as the bytes of the area and that offset alone
+abbrev pub area_in : Outcome Table → Outcome (ℕ × Option ℕ)
 area_in o = o >>= (λ (t : Table). value (t.area, t.longer))
 
 -- and as the blocks alone
 abbrev pub listed : Outcome Table → Outcome (List Block)
 listed o = o >>= (λ (t : Table). value t.blocks)
 
--- the column of a head, its blocks' area and spelling: the area has to end before the footer
-abbrev pub column_over : Head → (footer : ℕ) → ℕ × (Option ℕ) → Outcome (Column × (Option ℕ))
+-- the column of a head, its blocks' area and the offset of a longer field: the area has to end before the footer
+abbrev pub column_over : Head → (footer : ℕ) → ℕ × Option ℕ → Outcome (Column × Option ℕ)
 column_over h footer a =
     demand (leb (h.next + a.0) footer) 10 [] >> value (column_of h h.next a.0 Blockwise, option_or h.longer a.1)
 

@@ -20,7 +20,7 @@ pub struct Cursor {
     pub left: u32,
 }
 
-// A block, the place behind it, and how its fields are spelled.
+// A block, the place behind it, and the offset of its first field that is spelled longer than need be.
 #[derive(Clone, Copy)]
 pub struct Step {
     pub block: Block,

@@ -29,7 +29,7 @@ fn is_legal(bits: u64) -> bool
     bits == 64
 }
 
-// Internal: asks that the run's rows can be counted. The rows of a run that own a bit of byte `j` of the area: `rows` numbers
+// Internal: asks that the run's rows can be counted. The first and the last row of a run that own a bit of byte `j` of the area: `rows` numbers
 // of `bits` bits, the first that of row `first`, from byte `start` of the area on.
 fn run_owners(start: u64, bits: u64, first: u32, rows: u32, j: u64) -> Option<(u32, u32)>
     requires { first + rows < 2 ^ 32 }

@@ -9,7 +9,7 @@ ghost use Rattle.open_column.specs.Calls.{PlainAs, PlainUnderAs, NarrowedAs};
 use format::{Column, Refusal, Window};
 
 // Opens a column, for a table with room for so many blocks. All of opening's decisions fall here, on the bytes and the room
-// alone; the table itself is not needed for them.
+// alone; the table itself is not needed for them. Beside the column stands the offset of the first number that is spelled longer than need be, if there is one.
 #[tactic(auto, using(crate::proofs::Opens::opened_none, crate::proofs::Opens::opened_unknown))]
 pub fn open_plain(bytes: &[u8], room: usize) -> Result<(Column, Option<usize>), Refusal>
     ensures { PlainAs bytes.now room result }

@@ -1,4 +1,4 @@
-// A chunk of rows for callers that take refused rows one by one: its values up to the first that reading refuses, and that refusal.
+// A chunk of rows for callers that take refused rows one by one: how many values it has, or how many before the first row that reading refuses, and that refusal.
 ghost use Rattle.std.specs.Prelude.{◌≡◌, ◌+◌, ◌-◌, ◌^◌, ◌≤◌, length};
 ghost use Rattle.format.specs.Reading.{column_row, row_in};
 ghost use Rattle.read_row.specs.Chunks.{Chunk, chunk_size};

@@ -67,7 +67,7 @@ fn sweep_there(
     )
 }
 
-// Internal: asks for rows of the window, at least one, and a list of 2,048 entries. The rows from `first` on with values of the range, at the list's front: up to `end`, or as long as a chunk more has room.
+// Internal: asks for rows of the window, at least one, and a list of 2,048 entries. Answers the row behind those done, and how many were found. The rows from `first` on with values of the range, at the list's front: up to `end`, or as long as a chunk more has room.
 fn sweep_rows(
     column: Column,
     blocks: usize,

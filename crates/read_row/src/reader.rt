@@ -78,7 +78,7 @@ pub fn column_row(first: u32, row: WindowRow) -> ColumnRow
     ColumnRow((at % 0x1_0000_0000) as u32)
 }
 
-// The block that has a row of a window, as the column counts the row.
+// The block that has a row of a window, as the column counts the row, modulo 2^32.
 pub fn block_of(column: Column, row: WindowRow) -> usize
     ensures { result ≡ column_row column row.0 % 2 ^ 32 / 512 }
 {
@@ -226,7 +226,7 @@ pub fn decode_fitting(
 }
 
 // Internal: asks for a chunk: rows of the window, at least one, that lie in one block. Their values, with the block out of a table of so many. What fits at the last row fits at all of
-// them, so that one test serves the chunk.
+// them, so that one test serves the chunk. Either the list is filled, or the first refused row decides.
 pub fn decode(
     column: Column,
     blocks: usize,

@@ -71,7 +71,7 @@ pub fn scaled(column: Column, row: ColumnRow, multiple: u64) -> Result<u64, Refu
     Ok(column.minimum + column.gcd * multiple)
 }
 
-// How the head's numbers are spelled.
+// The first of the head's numbers that is spelled longer than need be, by its offset.
 fn spelled(minimum: Field, gcd: Field, count: Field, rows: Field) -> Option<usize>
     ensures { result ≡ option_or minimum.longer (option_or gcd.longer (option_or count.longer rows.longer)) }
 {

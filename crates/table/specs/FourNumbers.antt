@@ -18,13 +18,13 @@ use Rattle.format.specs.Reading.{column_row, block_at, row_in}
 
 -- ---- opening
 
--- the numbers of some blocks, the bytes of their area, and how their fields are spelled
+-- the numbers of some blocks, the bytes of their area, and the offset of their first field that is spelled longer than need be
 pub record Numbers : Type 0 where
   pub list : List ℕ
   pub area : ℕ
   pub longer : Option ℕ
 
--- what opening finds: the column, the numbers for the table, and how the fields are spelled
+-- what opening finds: the column, the numbers for the table, and the offset of the first field that is spelled longer than need be
 pub record LoadedNumbers : Type 0 where
   pub column : Column
   pub list : List ℕ
@@ -77,8 +77,8 @@ opened_numbers (c ∷ s) room = do
   h ← read_head (c ∷ s)
   open_body_by c (c ∷ s) h room
 
--- what was found, as the column and its spelling
-abbrev pub column_by : Outcome LoadedNumbers → Outcome (Column × (Option ℕ))
+-- what was found, as the column and that offset
+abbrev pub column_by : Outcome LoadedNumbers → Outcome (Column × Option ℕ)
 column_by o = o >>= (λ (l : LoadedNumbers). value (l.column, l.longer))
 
 -- and as the numbers for the table alone

@@ -89,8 +89,8 @@ fn fill(bytes: &[u8], rows: u32, table: &mut [Block])
     }
 }
 
-// Opens a column under an acceptance sheet, says how its numbers are spelled, and puts the blocks of a Blockwise one into the lent table, a
-// record a block. A refusal leaves the table as it was; so does a column without blocks.
+// Opens a column under an acceptance sheet, says the offset of the first number that is spelled longer than need be, if there is one, and puts the blocks of a
+// Blockwise one into the lent table, a record a block. A refusal leaves the table as it was; so does a column without blocks.
 pub fn open_under(
     sheet: u32,
     bytes: &[u8],

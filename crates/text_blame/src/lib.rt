@@ -66,7 +66,8 @@ fn begin_right(
 }
 
 // Begins a blame: opens both sides within a program's limits, and looks at their lengths and fields. Where a side is refused, the left one before the right,
-// where the lengths differ or a field does, the line that says so, the only one then, is written at the start of the lent one.
+// where the lengths differ or a field does, the line that says so, the only one then, is written at the start of the lent one,
+// and its length is the error.
 #[tactic(auto, using(crate::proofs::Beginnings::begun_left, text_column::proofs::Answered::found_column))]
 pub fn begin(left: &[u8], right: &[u8], line: &mut [u8; 128]) -> Result<(Column, Column), usize>
     ensures { BegunAs (starts (opened_here left.now) (opened_here right.now) left.now right.now) result line.old line.new }

@@ -47,7 +47,7 @@ fn begin_right(
 }
 
 // Begins a comparison: opens both sides within a program's limits. Where a side is refused, the left one before the right, the line that says so, the only one then, is written at
-// the start of the lent one.
+// the start of the lent one, and its length is the error.
 pub fn begin(left: &[u8], right: &[u8], line: &mut [u8; 128]) -> Result<(Own, Own), usize>
     ensures { BegunAs left.now right.now (opened_here left.now) (opened_here right.now) result line.old line.new }
 {

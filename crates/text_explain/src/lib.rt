@@ -23,7 +23,7 @@ pub struct Told {
     pub bytes: usize,
 }
 
-// Begins an explanation: opens the column within a program's limits. A refusal's line, the only one then, is written at the start of the lent one.
+// Begins an explanation: opens the column within a program's limits. A refusal's line, the only one then, is written at the start of the lent one, and its length is the error.
 #[tactic(auto, using(crate::proofs::Beginnings::begun_refused, crate::proofs::Beginnings::begun_column))]
 pub fn begin(bytes: &[u8], line: &mut [u8; 128]) -> Result<Column, usize>
     ensures { BegunAs (opened_here bytes.now) result line.old line.new }

@@ -18,7 +18,8 @@ use text_column::own::Own;
 // The longest line of a row.
 const LINE_MAX: usize = 32;
 
-// Begins a listing: opens the column, and writes the first line at the start of the lent one. A refusal's line is the only one.
+// Begins a listing: opens the column, and writes the first line at the start of the lent one. A refusal's line is the only one. Beside the column, or the
+// refusal's number, stands the line's length.
 pub fn begin(bytes: &[u8], line: &mut [u8; 128]) -> Result<(Own, usize), (u8, usize)>
     ensures { BegunAs bytes.now (opened_here bytes.now) result line.old line.new }
 {

@@ -44,7 +44,7 @@ fn column_of(answer: Result<(Column, Option<usize>), Refusal>) -> Column
     }
 }
 
-// Opens a column for a view, under an acceptance sheet that the caller names.
+// Opens a column for a view, under an acceptance sheet that the caller names: the column, and the offset of the first number that is spelled longer than need be.
 pub fn open_plain(sheet: u32, bytes: &[u8]) -> Result<(Column, Option<usize>), Refusal>
     ensures { PlainAs sheet bytes.now result }
 {

@@ -12,7 +12,7 @@ ghost use Rattle.format.specs.Refusals.{answered_by};
 
 use format::{Field, Refusal};
 
-// How a number at an offset is spelled whose last byte comes behind so many others: in more bytes than it need be exactly if there
+// The offset of a number whose last byte comes behind so many others, if it is spelled in more bytes than it need be: exactly if there
 // are others and the last one adds nothing to them.
 fn spelled(at: usize, others: usize, last: u8) -> Option<usize>
     ensures { result ≡ spelled_by at others last }
