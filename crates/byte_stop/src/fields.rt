@@ -26,7 +26,8 @@ fn refused(refusal: Refusal, name: PartName, first: usize) -> Stop
     }
 }
 
-// A number that is a part of its own.
+// A number that is a part of its own. Put where it is called: it hands a result on in another shape, and a call would copy it twice.
+#[inline(always)]
 fn number(s: &[u8], name: PartName, at: usize) -> Result<Field, Stop>
     ensures { reached_by result ≡ during name at (read_varint s.now at) }
 {

@@ -28,7 +28,7 @@ use Rattle.format.specs.Comparing.{comparison}
 -- a sheet, bytes and blocks; bytes, blocks and a row; a made-up column, table, bytes and a row; the same with how many rows; bytes, low, high, first, end and room; the same of a made-up column, with its table; a made-up column, a first row and how many; codecs, values and a row of what was written; bytes in a program;
 -- the listing of bytes; the comparison of two
 pub data Asked : Type 0 where
-  longer : ℕ → Asked
+  spelling : ℕ → Asked
   field : List ℕ → ℕ → Asked
   width_of : ℕ → Asked
   saving_of : ℕ → ℕ → Asked
@@ -84,7 +84,7 @@ alone o = o >>= (λ (v : ℕ). value (v ∷ []))
 
 -- what the definitions answer
 unfoldable pub answer : Asked → Outcome (List ℕ)
-answer (longer n) = value (spell n)
+answer (spelling n) = value (spell n)
 answer (field s at) = read_varint s at >>= (λ (f : Field). value (f.value ∷ f.next ∷ f.used ∷ longer_at f.longer))
 answer (width_of n) = value (width n ∷ [])
 answer (saving_of gcd rows) = value (saving gcd rows ∷ [])

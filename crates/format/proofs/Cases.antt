@@ -19,7 +19,7 @@ use Rattle.format.specs.Runs.{read_run, decoded}
 use Rattle.format.specs.Lookup.{looked_up, all_read, rows_passing}
 use Rattle.format.specs.Listing.{ascii, listing, opened_here, listed, head_line, named, named_line, decimal, decimal_in, row_line, row_texts}
 use Rattle.format.specs.Comparing.{comparison, compared, pair_lines, pair_line}
-use Rattle.format.proofs.Asking.{Case, Case.◌gives◌, Asked.longer, Asked.width_of, Asked.training, Asked.writing, Asked.reading, Asked.looking, Asked.text, Asked.pair, line_of, answer, question, said}
+use Rattle.format.proofs.Asking.{Case, Case.◌gives◌, Asked.spelling, Asked.width_of, Asked.training, Asked.writing, Asked.reading, Asked.looking, Asked.text, Asked.pair, line_of, answer, question, said}
 use Rattle.format.proofs.RuleCases.{rules}
 use Rattle.format.proofs.RunCases.{runs}
 use Rattle.format.proofs.WindowCases.{windows}
@@ -39,10 +39,10 @@ p10 b = 0x02 ∷ 0x8A ∷ 0x8A ∷ 0x82 ∷ 0x83 ∷ b ∷ 0x00 ∷ 0x00 ∷ 0x0
 abbrev pub marked : List Case
 marked =
     -- P1 to P4: varints
-    (longer 0 gives value (0x80 ∷ []))
-    ∷ (longer 127 gives value (0xFF ∷ []))
-    ∷ (longer 128 gives value (0x00 ∷ 0x81 ∷ []))
-    ∷ (longer (2 ^ 64 - 1) gives value (0x7F ∷ 0x7F ∷ 0x7F ∷ 0x7F ∷ 0x7F ∷ 0x7F ∷ 0x7F ∷ 0x7F ∷ 0x7F ∷ 0x81 ∷ []))
+    (spelling 0 gives value (0x80 ∷ []))
+    ∷ (spelling 127 gives value (0xFF ∷ []))
+    ∷ (spelling 128 gives value (0x00 ∷ 0x81 ∷ []))
+    ∷ (spelling (2 ^ 64 - 1) gives value (0x7F ∷ 0x7F ∷ 0x7F ∷ 0x7F ∷ 0x7F ∷ 0x7F ∷ 0x7F ∷ 0x7F ∷ 0x7F ∷ 0x81 ∷ []))
     -- P5, P6: widths
     ∷ (width_of (2 ^ 56 - 1) gives value (56 ∷ []))
     ∷ (width_of (2 ^ 56) gives value (64 ∷ []))

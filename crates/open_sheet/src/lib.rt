@@ -140,6 +140,8 @@ pub fn under(
     if sheet == 1 {
         return answer;
     }
-    let (column, longer) = answer?;
+    let Ok((column, longer)) = answer else {
+        return answer;
+    };
     strict(column, longer, bytes)
 }

@@ -1,5 +1,6 @@
 -- The first field that differs, offset by offset.
---     first_found      the first offset that has one, or none has
+--     field_found, field_more, field_ends      at an offset; behind one that has none; behind the last
+--     first_found                              the first offset that has one, or none has
 -- Assumes nothing.
 use Rattle.std.specs.Prelude.{Option, Some, None, MatchOption}
 use Prim.Native.Nat.{ℕ, zero, suc, ◌+◌, ◌-◌, ◌≤◌, ◌<◌}
@@ -41,13 +42,13 @@ module _ (part : ℕ → Outcome Part) (s t : List ℕ) where
   left : (i n : ℕ) → i < n → n - i ≡ suc (n - suc i)
   left i n h = omega arith
 
-  field_found : (i n j : ℕ) (name : PartName) → i < n → first_field part s t i 1 ≡ Some (j, name) → first_field part s t i (n - i) ≡ Some (j, name)
+  pub field_found : (i n j : ℕ) (name : PartName) → i < n → first_field part s t i 1 ≡ Some (j, name) → first_field part s t i (n - i) ≡ Some (j, name)
   field_found i n j name h e = ap (first_field part s t i) (left i n h) ∙ (rw e at (step i (n - suc i)))
 
-  field_more : (i n : ℕ) → i < n → first_field part s t i 1 ≡ None → first_field part s t i (n - i) ≡ first_field part s t (i + 1) (n - (i + 1))
+  pub field_more : (i n : ℕ) → i < n → first_field part s t i 1 ≡ None → first_field part s t i (n - i) ≡ first_field part s t (i + 1) (n - (i + 1))
   field_more i n h e = rw add-one (ap (first_field part s t i) (left i n h) ∙ (rw e at (step i (n - suc i))))
 
-  field_ends : (i n : ℕ) → n ≤ i → first_field part s t i (n - i) ≡ None
+  pub field_ends : (i n : ℕ) → n ≤ i → first_field part s t i (n - i) ≡ None
   unfolding first_field
   field_ends i n h =
       let none : n - i ≡ 0 = omega arith in

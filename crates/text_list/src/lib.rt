@@ -12,7 +12,7 @@ ghost use Rattle.text_column.specs.Own.{Owned};
 
 use format::{Column, WindowRow};
 use text::Filled;
-use text::lines::named_line;
+use text::lines::{named_line, refusal_number};
 use text_column::own::Own;
 
 // The longest line of a row.
@@ -23,16 +23,13 @@ const LINE_MAX: usize = 32;
 pub fn begin(bytes: &[u8], line: &mut [u8; 128]) -> Result<(Own, usize), (u8, usize)>
     ensures { BegunAs bytes.now (opened_here bytes.now) result line.old line.new }
 {
-    match text_column::opening::open_plain(bytes) {
-        Ok((column, _)) => {
-            let own = text_column::own::begin(bytes, column);
-            Ok((own, lines::column_line(column, line)))
-        }
-        Err(refusal) => {
-            let number = refusal.number();
-            Err((number, lines::refused_line(number, line)))
-        }
-    }
+    let opened = text_column::opening::open_plain(bytes);
+    let Ok((column, _)) = opened else {
+        let number = refusal_number(opened);
+        return Err((number, lines::refused_line(number, line)));
+    };
+    let own = text_column::own::begin(bytes, column);
+    Ok((own, lines::column_line(column, line)))
 }
 
 // Internal: asks for a column that was opened of these bytes, seen through a window that lies in it, and a pass over its blocks. Writes the lines of the rows from `from` on at the start of a buffer, while a longest

@@ -6,4 +6,4 @@ use Rattle.text_column.proofs.Limits.{here_bounds}
 use Rattle.text_list.proofs.begin.Goals as goal
 
 pub column_line-requires : goal.column_line-requires
-column_line-requires c = here_bounds _ _ _ (told answered_by c.open_plain.ensures c.in-Ok.is)
+column_line-requires c = here_bounds _ _ _ (told answered_by c.open_plain-opened.ensures c.in-Ok.is)
