@@ -5,8 +5,8 @@
 -- Assumes nothing.
 use Rattle.std.specs.Prelude.{Option, Some, None}
 use Prim.Native.Nat.{ℕ, zero, suc, ◌+◌, ◌-◌, ◌*◌, ◌/◌, ◌≤◌, ◌<◌, min}
-use mathlib.Core.Path.{◌≡◌, refl, sym, ◌∙◌}
-use mathlib.Core.Bool.{Bool, true, false}
+use mathlib.Core.Path.{◌≡◌, sym, ◌∙◌}
+use mathlib.Core.Bool.{true, false}
 use mathlib.Core.List.{List}
 use native.Mathlib.Nat.{div-lt_iff_lt-mul, mul-zero, zero-mul}
 use native.Mathlib.Omega.{arith}
@@ -22,16 +22,9 @@ module _ (u : Run) (j : ℕ) where
   unfolding run_owners
   run_illegal e = rw e
 
-  lawful_early : legal u.bits ≡ true → j < u.start → run_owners u j ≡ None
+  pub run_early : legal u.bits ≡ true → j < u.start → run_owners u j ≡ None
   unfolding run_owners
-  lawful_early lawful h = rw (lawful, lt-leb u.start j h)
-
-  pub run_early : j < u.start → run_owners u j ≡ None
-  run_early h = go (legal u.bits) refl
-    where
-      go : (b : Bool) → legal u.bits ≡ b → run_owners u j ≡ None
-      go true lawful = lawful_early lawful h
-      go false e = run_illegal e
+  run_early lawful h = rw (lawful, lt-leb u.start j h)
 
   pub run_late : legal u.bits ≡ true → u.start ≤ j → u.rows * u.bits ≤ 8 * (j - u.start) → run_owners u j ≡ None
   unfolding run_owners

@@ -35,11 +35,10 @@ fn run_owners(start: u64, bits: u64, first: u32, rows: u32, j: u64) -> Option<(u
     requires { first + rows < 2 ^ 32 }
     ensures { result ≡ run_owners (record { start = start; bits = bits; first = first; rows = rows }) j }
 {
-    // The byte first: tested behind the width, both tests become one, which costs a search over many blocks more.
-    if j < start {
+    if !is_legal(bits) {
         return None;
     }
-    if !is_legal(bits) {
+    if j < start {
         return None;
     }
     let end = (rows as u64) * bits;

@@ -18,12 +18,11 @@ pub fn rows_told(
     ensures { Tells (after (answered_by made) (rows_told (answered_by answer))) refusal.new rows.old rows.new }
 {
     match made.and(answer) {
-        Ok(Some((first, last))) => {
-            *rows = [first as u64, last as u64 + 1];
-            *refusal = ACCEPTED;
-        }
-        Ok(None) => {
-            *rows = [0, 0];
+        Ok(owners) => {
+            *rows = match owners {
+                Some((first, last)) => [first as u64, last as u64 + 1],
+                None => [0, 0],
+            };
             *refusal = ACCEPTED;
         }
         Err(q) => {

@@ -11,7 +11,7 @@ returns-then-not-is_legal c =
 
 pub returns-then-j-start : goal.returns-then-j-start
 returns-then-j-start c =
-    sym (run_early (record { start = c.args.start; bits = c.args.bits; first = c.args.first; rows = c.args.rows }) c.args.j c.if-j-start.true)
+    sym (run_early (record { start = c.args.start; bits = c.args.bits; first = c.args.first; rows = c.args.rows }) c.args.j (sym c.is_legal.ensures ∙ c.if-not-is_legal.false) c.if-j-start.true)
 
 pub returns-then-end-byte : goal.returns-then-end-byte
 returns-then-end-byte c =
